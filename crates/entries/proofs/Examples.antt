@@ -1,0 +1,19 @@
+-- P8, P11 and P12 hold.
+-- Assumes nothing.
+use mathlib.Core.Path.{refl}
+use Rattle.entries.specs.Layout.{decodedOf}
+use Rattle.entries.specs.Fields.{lengthOf}
+use Rattle.entries.specs.Legality.{cmdLegal, pctrlLegal, dataLegal}
+use Rattle.entries.specs.Examples.{P8, P11, P12}
+
+pub p8 : P8
+unfolding pctrlLegal lengthOf
+p8 = (refl, refl, refl, refl)
+
+pub p11 : P11
+unfolding dataLegal cmdLegal pctrlLegal lengthOf
+p11 = (refl, refl)
+
+pub p12 : P12
+unfolding decodedOf dataLegal cmdLegal pctrlLegal lengthOf
+p12 = (refl, refl, refl, refl)

@@ -1,0 +1,4 @@
+pub mod Decodes
+pub mod Finds
+pub mod Lengths
+pub mod Examples

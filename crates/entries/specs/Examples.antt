@@ -1,0 +1,25 @@
+-- P8, P11 and P12 (01, Boards to check).
+use mathlib.Core.Path.{_≡_}
+use mathlib.Core.Bool.{true, false}
+use mathlib.Core.List.{List, [], _∷_}
+use Prim.Native.Nat.{ℕ}
+use Rattle.entries.specs.Layout.{decodedOf}
+use Rattle.entries.specs.Legality.{pctrlLegal, dataLegal, legalAt}
+use Rattle.entries.specs.declared.decoding.Decoded.the-variants.{Whole}
+
+abbrev pub P8 : Type 0
+P8 = (pctrlLegal 0x2003 ≡ false) × (pctrlLegal 0x0303 ≡ false) × (pctrlLegal 0x0203 ≡ true) × (pctrlLegal 0x1F00 ≡ true)
+
+abbrev pub P11 : Type 0
+P11 = (dataLegal 10 0x08000800 ≡ true) × (dataLegal 10 0x08010000 ≡ false)
+
+-- the five bytes as a list memory of one entry
+abbrev pub memory : ℕ → List ℕ
+memory first = first ∷ 0x00 ∷ 0x04 ∷ 0x00 ∷ 0x02 ∷ []
+
+abbrev pub P12 : Type 0
+P12 =
+    (decodedOf (memory 0x60) 0 ≡ Whole (record { register = 12; spare = 0; word = 0x0004_0002 }))
+    × (legalAt (memory 0x60) 0 ≡ true)
+    × (legalAt (memory 0x61) 0 ≡ false)
+    × (legalAt (memory 0x68) 0 ≡ false)

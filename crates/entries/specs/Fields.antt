@@ -1,0 +1,50 @@
+-- The fields of CMD and PCTRL (01, Entry layout).
+use mathlib.Core.Bool.{Bool, cond}
+use Prim.Native.Nat.{ℕ, _+_, _/_, _%_, _^_}
+use lib.Dec.{eqb}
+use Rattle.entries.specs.declared.fields.Command.{Command}
+use Rattle.entries.specs.declared.fields.PatternControl.{PatternControl}
+
+-- The field of `width` bits whose lowest is bit `low`.
+abbrev pub field : ℕ → ℕ → ℕ → ℕ
+field low width word = word / 2 ^ low % 2 ^ width
+
+abbrev pub flag : ℕ → ℕ → Bool
+flag low word = eqb (field low 1 word) 1
+
+-- "opcode 31..28, raster code 27..24, then SOLID 23, TRNSP 22, STPL 21, KEY 20, NLST 19, PRST 18, CLIP 17, source 16,
+-- destination 15 (0 display, 1 virtual)"
+abbrev pub commandOf : ℕ → Command
+commandOf word =
+    record {
+      opcode = field 28 4 word;
+      code = field 24 4 word;
+      solid = flag 23 word;
+      trnsp = flag 22 word;
+      stpl = flag 21 word;
+      key = flag 20 word;
+      nlst = flag 19 word;
+      prst = flag 18 word;
+      clip = flag 17 word;
+      «from_virtual» = flag 16 word;
+      «to_virtual» = flag 15 word;
+    }
+
+-- "PLEN 4..0, 0 meaning 32 bits; PSCL 7..5, scale PSCL + 1; SPTR 12..8; SSCL 15..13"
+abbrev pub plen : ℕ → ℕ
+plen word = word % 2 ^ 5
+
+abbrev pub pscl : ℕ → ℕ
+pscl word = field 5 3 word
+
+abbrev pub sptr : ℕ → ℕ
+sptr word = field 8 5 word
+
+abbrev pub sscl : ℕ → ℕ
+sscl word = field 13 3 word
+
+unfoldable pub lengthOf : ℕ → ℕ
+lengthOf word = cond (eqb (plen word) 0) 32 (plen word)
+
+abbrev pub patternControlOf : ℕ → PatternControl
+patternControlOf word = record { length = lengthOf word; scale = pscl word + 1; place = sptr word; repeat = sscl word }

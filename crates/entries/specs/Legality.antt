@@ -1,0 +1,62 @@
+-- Which entries are legal (01, Entry layout), and the first that is not.
+use mathlib.Core.Bool.{Bool, false, not, cond, _&&_, _||_}
+use mathlib.Core.List.{List}
+use Prim.Native.Nat.{ℕ, zero, suc, _/_, _%_, _^_}
+use lib.Dec.{eqb, leb, ltb}
+use Rattle.entries.specs.Layout.{decodedOf}
+use Rattle.entries.specs.Fields.{commandOf, lengthOf, pscl, sptr, sscl}
+use Rattle.entries.specs.declared.decoding.Entry.{Entry}
+use Rattle.entries.specs.declared.decoding.Decoded.{Decoded}
+use Rattle.entries.specs.declared.decoding.Decoded.the-variants.{Whole, Nothing}
+use Rattle.entries.specs.declared.fields.Command.{Command}
+use Rattle.entries.specs.declared.legality.Illegal.{Illegal}
+use Rattle.entries.specs.declared.legality.Illegal.the-variants.{At, Nowhere}
+
+-- "BITBLT: STPL, NLST, PRST zero; TRNSP only with SOLID; KEY only without."
+abbrev pub blitLegal : Command → Bool
+blitLegal c = not (c .stpl) && not (c .nlst) && not (c .prst) && (not (c .trnsp) || c .solid) && (not (c .key) || not (c .solid))
+
+-- "LINE, PLINE: KEY and source zero; SOLID or STPL set."
+abbrev pub lineLegal : Command → Bool
+lineLegal c = not (c .key) && not (c .«from_virtual») && (c .solid || c .stpl)
+
+-- NOOP 0, BITBLT 1, LINE 2, PLINE 5; bits 14 to 0 "rest zero"; "NOOP: all else zero. Other opcodes are illegal."
+unfoldable pub cmdLegal : ℕ → Bool
+cmdLegal word =
+    let c = commandOf word in
+    eqb word 0
+    || (eqb (word % 2 ^ 15) 0 && (eqb (c .opcode) 1 && blitLegal c || (eqb (c .opcode) 2 || eqb (c .opcode) 5) && lineLegal c))
+
+-- bits 31 to 16 "rest zero. Illegal where SSCL > PSCL, or SPTR is not below the length."
+unfoldable pub pctrlLegal : ℕ → Bool
+pctrlLegal word =
+    ltb word (2 ^ 16) && leb (sscl word) (pscl word) && ltb (sptr word) (lengthOf word)
+
+-- "0 CMD, 1 FORE, 2 BACK, 3 MASK, 4 KEY, 5 LPAT, 6 PCTRL, 7 CLPTL, 8 CLPBR, 9 XY0, 10 XY2, 11 XY3, 12 XY1. 13 to 31 are
+-- illegal. FORE, BACK, MASK, KEY: 0 to 255. LPAT: any." The points are any too. "XY2: width, then height, each 0 to
+-- 2,048. XY3: 0 to 3."
+unfoldable pub dataLegal : ℕ → ℕ → Bool
+dataLegal register word =
+    eqb register 0 && cmdLegal word
+    || leb 1 register && leb register 4 && ltb word 256
+    || eqb register 5
+    || eqb register 6 && pctrlLegal word
+    || leb 7 register && leb register 9
+    || eqb register 10 && leb (word / 2 ^ 16) 2048 && leb (word % 2 ^ 16) 2048
+    || eqb register 11 && leb word 3
+    || eqb register 12
+
+abbrev pub entryLegal : Entry → Bool
+entryLegal e = eqb (e .spare) 0 && dataLegal (e .register) (e .word)
+
+abbrev pub decodedLegal : Decoded → Bool
+decodedLegal (Whole e) = entryLegal e
+decodedLegal Nothing = false
+
+abbrev pub legalAt : List ℕ → ℕ → Bool
+legalAt l k = decodedLegal (decodedOf l k)
+
+-- The first illegal one of n entries from place k on.
+unfoldable pub firstIllegal : List ℕ → ℕ → ℕ → Illegal
+firstIllegal l k zero = Nowhere
+firstIllegal l k (suc n) = cond (legalAt l k) (firstIllegal l (suc k) n) (At k)

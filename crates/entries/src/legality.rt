@@ -1,0 +1,85 @@
+// Which entries are legal.
+ghost use mathlib.Core.Path.{_≡_};
+ghost use Rattle.entries.specs.Legality.{cmdLegal, pctrlLegal, dataLegal, entryLegal, legalAt, firstIllegal};
+use crate::decoding::Decoded;
+use crate::decoding::Entry;
+use crate::decoding::entry_at;
+use crate::fields::command_of;
+use crate::fields::pattern_length;
+
+pub fn legal_cmd(word: u32) -> bool
+    ensures { λ r. ⌜ r ≡ cmdLegal word ⌝ }
+{
+    let c = command_of(word);
+    let blit = !c.stpl & !c.nlst & !c.prst & (!c.trnsp | c.solid) & (!c.key | !c.solid);
+    let line = !c.key & !c.from_virtual & (c.solid | c.stpl);
+    (word == 0)
+        | ((word % 32768 == 0)
+            & ((c.opcode == 1) & blit | ((c.opcode == 2) | (c.opcode == 5)) & line))
+}
+
+pub fn legal_pctrl(word: u32) -> bool
+    ensures { λ r. ⌜ r ≡ pctrlLegal word ⌝ }
+{
+    let length = pattern_length(word);
+    (word < 65536) & (word / 8192 % 8 <= word / 32 % 8) & (word / 256 % 32 < length)
+}
+
+// Whether a register may hold a word.
+pub fn legal_data(register: u32, word: u32) -> bool
+    ensures { λ r. ⌜ r ≡ dataLegal register word ⌝ }
+{
+    let cmd = legal_cmd(word);
+    let pctrl = legal_pctrl(word);
+    (register == 0) & cmd
+        | (1 <= register) & (register <= 4) & (word < 256)
+        | (register == 5)
+        | (register == 6) & pctrl
+        | (7 <= register) & (register <= 9)
+        | (register == 10) & (word / 65536 <= 2048) & (word % 65536 <= 2048)
+        | (register == 11) & (word <= 3)
+        | (register == 12)
+}
+
+impl Entry {
+    pub fn legal(self) -> bool
+        ensures { λ r. ⌜ r ≡ entryLegal self ⌝ }
+    {
+        let held = legal_data(self.register, self.word);
+        (self.spare == 0) & held
+    }
+}
+
+// Whether list memory has a legal entry at a place.
+pub fn legal_at(list: &[u8], place: usize) -> bool
+    ensures { λ r. ⌜ r ≡ legalAt (now (list .entry)) place ⌝ }
+{
+    match entry_at(list, place) {
+        Decoded::Whole(e) => e.legal(),
+        Decoded::Nothing => false,
+    }
+}
+
+// The place of a list's first illegal entry.
+pub enum Illegal {
+    At(usize),
+    Nowhere,
+}
+
+// The first of `count` entries from `start` on that is not legal.
+pub fn first_illegal(list: &[u8], start: usize, count: usize) -> Illegal
+    ensures { λ r. ⌜ r ≡ firstIllegal (now (list .entry)) start count ⌝ }
+{
+    let mut place = start;
+    let mut left = count;
+    loop {
+        if left == 0 {
+            break Illegal::Nowhere;
+        }
+        if !legal_at(list, place) {
+            break Illegal::At(place);
+        }
+        place += 1;
+        left -= 1;
+    }
+}

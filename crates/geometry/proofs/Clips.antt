@@ -1,0 +1,81 @@
+-- A reversed rectangle holds no point, and a place lies in its buffer.
+-- Assumes nothing.
+use mathlib.Core.Path.{_≡_, ap, _∙_}
+use mathlib.Core.Bool.{false, _&&_, and-assoc, and-false}
+use mathlib.Core.Logic.{⊎-elim}
+use Prim.Native.Nat.{ℕ, _+_, _-_, _*_, _^_, _≤_, _<_}
+use native.Mathlib.Nat.{mul-le-mul, mul-le-mul-right, add-mul, one-mul, mul-comm}
+use native.Mathlib.Omega.{arith}
+use borrow.Author.Tests.{leb-true, ltb-true, le-leb, lt-leb, lt-ltb, le-ltb}
+use lib.Dec.{leb, ltb}
+use Rattle.lemmas.proofs.Booleans.{by-cases, and-left, and-right}
+use Rattle.geometry.specs.Coordinates.{origin}
+use Rattle.geometry.specs.Clip.{inBuffer, placeOf, ReversedHoldsNothing, PlacesFit}
+use Rattle.geometry.specs.declared.Point.{Point}
+use Rattle.geometry.specs.declared.Place.the-variants.{At, Outside}
+
+-- from a above b, nothing lies between
+between : (a b c : ℕ) → b < a → (leb a c && leb c b) ≡ false
+between a b c h =
+    by-cases (leb a c) (λ e. rw (e, lt-leb c b (omega (arith, leb-true a c e)))) (λ e. rw e)
+
+pub reversed : ReversedHoldsNothing
+reversed r h p =
+    ⊎-elim (λ l. rw (between (r .left) (r .right) (p .x) l))
+    (λ l.
+    let wide = leb (r .left) (p .x) && leb (p .x) (r .right) in
+    and-assoc wide (leb (r .top) (p .y)) (leb (p .y) (r .bottom)) ∙ ap (λ t. wide && t) (between (r .top) (r .bottom) (p .y) l)
+    ∙ and-false wide)
+    h
+
+-- the place of column x of row y
+pub area : (width height x y : ℕ) → x < width → y < height → y * width + x < width * height
+area width height x y h l =
+    omega (arith, mul-le-mul-right {m = y + 1} {n = height} width (omega arith), add-mul y 1 width, one-mul width, mul-comm height width)
+
+pub area-fits : (width height x y : ℕ) → width < 4294967296 → height < 4294967296 → x < width → y < height → y * width + x < 2 ^ 64
+area-fits width height x y hw hh h l =
+    let most : width * height ≤ 4294967295 * 4294967295 =
+    mul-le-mul {n₁ = width} {m₁ = height} {n₂ = 4294967295} {m₂ = 4294967295} (omega arith) (omega arith) in
+    omega (arith, area width height x y h l)
+
+-- a point's place by the tests that it passes
+module _ (width height : ℕ) (p : Point) where
+  outside : inBuffer width height p ≡ false → Outside ≡ placeOf width height p
+  unfolding placeOf
+  outside e = rw e
+
+  pub left-of : p .x < origin → Outside ≡ placeOf width height p
+  left-of h = outside (rw (lt-leb origin (p .x) h))
+
+  pub above : p .y < origin → Outside ≡ placeOf width height p
+  above h = outside (rw (lt-leb origin (p .y) h) (simp and-false))
+
+  pub right-of : width ≤ p .x - origin → Outside ≡ placeOf width height p
+  right-of h = outside (rw (le-ltb (p .x - origin) width h) (simp and-false))
+
+  pub under : height ≤ p .y - origin → Outside ≡ placeOf width height p
+  under h = outside (rw (le-ltb (p .y - origin) height h) (simp and-false))
+
+  pub inside : origin ≤ p .x → origin ≤ p .y → p .x - origin < width → p .y - origin < height
+      → At ((p .y - origin) * width + (p .x - origin)) ≡ placeOf width height p
+  unfolding placeOf
+  inside a b c d = rw (le-leb origin (p .x) a, le-leb origin (p .y) b, lt-ltb (p .x - origin) width c, lt-ltb (p .y - origin) height d)
+
+pub places-fit : PlacesFit
+unfolding placeOf
+places-fit width height p i e =
+    by-cases (inBuffer width height p)
+    (λ t.
+    let found : At ((p .y - origin) * width + (p .x - origin)) ≡ At i = rw t at e in
+    let same : (p .y - origin) * width + (p .x - origin) ≡ i = cc in
+    let tall = ltb (p .y - origin) height in
+    let wide = ltb (p .x - origin) width in
+    rw (← same)
+    (area width height (p .x - origin) (p .y - origin)
+    (ltb-true (p .x - origin) width (and-right (leb origin (p .x) && leb origin (p .y)) wide (and-left (leb origin (p .x) && leb origin (p .y) && wide) tall t)))
+    (ltb-true (p .y - origin) height (and-right (leb origin (p .x) && leb origin (p .y) && wide) tall t))))
+    (λ t. absurd (none-at (rw t at e)))
+  where
+    none-at : Outside ≡ At i → ⊥
+    none-at q = let z : _≡_ {A = ℕ} 0 1 = cc in omega arith

@@ -1,0 +1,7 @@
+pub mod Integers
+pub mod Whole
+pub mod Clips
+pub mod Lines
+pub mod LineRule
+pub mod Blits
+pub mod Examples

@@ -1,0 +1,35 @@
+use borrow.Author.Needs.{needs}
+use mathlib.Core.Path.{_∙_}
+use Rattle.geometry.proofs.line_steps.Statement.{statement}
+use Rattle.geometry.proofs.line_steps.Tie as tie
+
+point-of-requires : tie.Need-point-of-requires
+point-of-requires c κs = search needs
+
+point-of-requires-2 : tie.Need-point-of-requires-2
+point-of-requires-2 c κs = search needs
+
+span-requires : tie.Need-span-requires
+span-requires c κs = search needs
+
+span-requires-2 : tie.Need-span-requires-2
+span-requires-2 c κs = search needs
+
+larger-requires : tie.Need-larger-requires
+larger-requires c κs = search needs
+
+returns : tie.Need-returns
+returns c =
+    let ends = c .before .before .before in
+    c .larger .ensures ∙ rw (c .before .before .span .ensures, c .before .span2 .ensures, ends .before .point-of .ensures, ends .point-of2 .ensures)
+
+pub line-steps-spec : {M : Type 1} → statement M
+line-steps-spec =
+    tie.close
+    (tie.spec
+    point-of-requires
+    point-of-requires-2
+    span-requires
+    span-requires-2
+    larger-requires
+    returns)

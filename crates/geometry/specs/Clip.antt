@@ -1,0 +1,40 @@
+-- The clip rectangle and the buffer's bounds (01, Pixels, and What the engine has).
+use mathlib.Core.Path.{_≡_}
+use mathlib.Core.Bool.{Bool, false, cond, _&&_}
+use mathlib.Core.Logic.{_⊎_}
+use Prim.Native.Nat.{ℕ, _+_, _-_, _*_, _<_}
+use lib.Dec.{leb, ltb}
+use Rattle.geometry.specs.Coordinates.{origin, pointOf}
+use Rattle.geometry.specs.declared.Point.{Point}
+use Rattle.geometry.specs.declared.Rect.{Rect}
+use Rattle.geometry.specs.declared.Place.{Place}
+use Rattle.geometry.specs.declared.Place.the-variants.{At, Outside}
+
+-- CLPTL to CLPBR
+abbrev pub rectOf : ℕ → ℕ → Rect
+rectOf topLeft bottomRight =
+    record {
+      left = pointOf topLeft .x;
+      top = pointOf topLeft .y;
+      right = pointOf bottomRight .x;
+      bottom = pointOf bottomRight .y;
+    }
+
+-- "both corners inside"
+abbrev pub inRect : Rect → Point → Bool
+inRect r p = leb (r .left) (p .x) && leb (p .x) (r .right) && leb (r .top) (p .y) && leb (p .y) (r .bottom)
+
+-- a pixel of a buffer of width x height
+abbrev pub inBuffer : ℕ → ℕ → Point → Bool
+inBuffer width height p = leb origin (p .x) && leb origin (p .y) && ltb (p .x - origin) width && ltb (p .y - origin) height
+
+-- "pixel (x, y) at y x width + x"; outside the buffer a point has no place
+unfoldable pub placeOf : ℕ → ℕ → Point → Place
+placeOf width height p = cond (inBuffer width height p) (At ((p .y - origin) * width + (p .x - origin))) Outside
+
+-- "A reversed clip draws nothing", and a place lies in its buffer; proved in proofs/Clips.antt.
+abbrev pub ReversedHoldsNothing : Type 0
+ReversedHoldsNothing = (r : Rect) → (r .right < r .left) ⊎ (r .bottom < r .top) → (p : Point) → inRect r p ≡ false
+
+abbrev pub PlacesFit : Type 0
+PlacesFit = (width height : ℕ) (p : Point) (i : ℕ) → placeOf width height p ≡ At i → i < width * height

@@ -1,0 +1,5 @@
+pub mod Coordinates
+pub mod Clip
+pub mod Line
+pub mod Blit
+pub mod Examples

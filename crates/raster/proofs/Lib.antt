@@ -1,0 +1,4 @@
+pub mod Bits
+pub mod Rule
+pub mod Normal
+pub mod Examples

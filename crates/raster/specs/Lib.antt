@@ -1,0 +1,3 @@
+pub mod Raster
+pub mod Selectors
+pub mod Examples

@@ -1,0 +1,3 @@
+pub mod Registers
+pub mod Patterns
+pub mod Examples

@@ -1,0 +1,63 @@
+// The line pattern's state.
+ghost use mathlib.Core.Path.{_≡_};
+ghost use Rattle.registers.specs.Patterns.{startOf, patternBit, nextOf, inRange};
+use entries::PatternControl;
+
+// Document 01's pattern state: a place in LPAT and a repeat.
+pub struct Pattern {
+    pub place: u32,
+    pub repeat: u32,
+}
+
+impl Pattern {
+    // The state that PCTRL sets.
+    pub fn start(control: PatternControl) -> Pattern
+        ensures { λ r. ⌜ r ≡ startOf control ⌝ }
+    {
+        Pattern {
+            place: control.place,
+            repeat: control.repeat,
+        }
+    }
+
+    // The bit of LPAT that the state stands at.
+    pub fn bit(self, lpat: u32) -> bool
+        ensures { λ r. ⌜ r ≡ patternBit lpat self ⌝ }
+    {
+        if 32 <= self.place {
+            return false;
+        }
+        (lpat >> self.place) % 2 == 1
+    }
+
+    // The state after one more pixel.
+    pub fn next(self, control: PatternControl) -> Pattern
+        ensures { λ r. ⌜ r ≡ nextOf control self ⌝ }
+    {
+        let repeat = self.repeat as u64 + 1;
+        if repeat < control.scale as u64 {
+            return Pattern {
+                place: self.place,
+                repeat: self.repeat + 1,
+            };
+        }
+        let place = self.place as u64 + 1;
+        if place < control.length as u64 {
+            return Pattern {
+                place: self.place + 1,
+                repeat: 0,
+            };
+        }
+        Pattern {
+            place: 0,
+            repeat: 0,
+        }
+    }
+
+    // Whether place and repeat are below length and scale.
+    pub fn in_range(self, control: PatternControl) -> bool
+        ensures { λ r. ⌜ r ≡ inRange control self ⌝ }
+    {
+        (self.place < control.length) & (self.repeat < control.scale)
+    }
+}

@@ -1,0 +1,6 @@
+// The register file, and the line pattern's state (document 01, Entry layout and Pixels).
+mod dashes;
+mod file;
+
+pub use dashes::Pattern;
+pub use file::Registers;
