@@ -44,7 +44,7 @@ bit-fill k b hk hb =
 byte-bits : (x : ℕ) → x < 256 → byteOf (λ k. bit k x) ≡ x
 byte-bits x h = eqb→eq (byteOf (λ k. bit k x)) x (at 256 (λ x. eqb (byteOf (λ k. bit k x)) x) tt x h)
 
-byte-ext : (f g : ℕ → ℕ) → ((k : ℕ) → k < 8 → f k ≡ g k) → byteOf f ≡ byteOf g
+pub byte-ext : (f g : ℕ → ℕ) → ((k : ℕ) → k < 8 → f k ≡ g k) → byteOf f ≡ byteOf g
 byte-ext f g h =
     cc (
       h 0 (lit< tt),
@@ -62,3 +62,15 @@ by-bits x f h e = sym (byte-bits x h) ∙ byte-ext (λ k. bit k x) f e
 
 pub same-bits : (x y : ℕ) → x < 256 → y < 256 → ((k : ℕ) → k < 8 → bit k x ≡ bit k y) → x ≡ y
 same-bits x y h g e = by-bits x (λ k. bit k y) h e ∙ byte-bits y g
+
+-- the low eight bits are those of the rest by 256
+pub bit-low : (k x : ℕ) → k < 8 → bit k (x % 256) ≡ bit k x
+bit-low zero x h = omega arith
+bit-low (suc zero) x h = omega arith
+bit-low (suc (suc zero)) x h = omega arith
+bit-low (suc (suc (suc zero))) x h = omega arith
+bit-low (suc (suc (suc (suc zero)))) x h = omega arith
+bit-low (suc (suc (suc (suc (suc zero))))) x h = omega arith
+bit-low (suc (suc (suc (suc (suc (suc zero)))))) x h = omega arith
+bit-low (suc (suc (suc (suc (suc (suc (suc zero))))))) x h = omega arith
+bit-low (suc (suc (suc (suc (suc (suc (suc (suc k)))))))) x h = absurd (omega arith)

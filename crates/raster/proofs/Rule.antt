@@ -1,16 +1,16 @@
 -- The body of `new_byte` is the raster rule: each of its bits is the same expression over the bits of its parts, and a
 -- test of every code and three bits says that this is the rule.
 -- Assumes nothing.
-use mathlib.Core.Path.{_≡_, ap, sym, _∙_}
+use mathlib.Core.Path.{_≡_, ap, ap₂, sym, _∙_}
 use mathlib.Core.Bool.{Bool}
-use Prim.Native.Nat.{ℕ, zero, suc, _*_, _<_, min, max}
+use Prim.Native.Nat.{ℕ, zero, suc, _*_, _%_, _<_, min, max}
 use native.Mathlib.Nat.{lt-of-le-of-lt}
 use native.Mathlib.Omega.{arith}
 use lib.Bits.{bitAnd, bitOr, bitXor, differ, and-le-l, and-le-r, or-lt}
 use lib.Dec.{T, eqb, eqb→eq}
 use Rattle.raster.specs.Raster.{bit, newBit, newByte}
 use Rattle.lemmas.proofs.Finite.{all, at}
-use Rattle.raster.proofs.Bits.{bit-and, bit-or, bit-xor, bit-fill, by-bits}
+use Rattle.raster.proofs.Bits.{bit-and, bit-or, bit-xor, bit-fill, bit-low, by-bits, byte-ext}
 
 -- the body over any three operations; c0 to c3 are the code's bits, each as many times as `ones` has bits
 abbrev parts : (ℕ → ℕ → ℕ) → (ℕ → ℕ → ℕ) → (ℕ → ℕ → ℕ) → ℕ → ℕ → ℕ → ℕ → ℕ → ℕ → ℕ → ℕ
@@ -74,3 +74,10 @@ pub newBit-lt : (code s d m : ℕ) → d < 2 → newBit code s d m < 2
 unfolding newBit
 newBit-lt code s d zero h = h
 newBit-lt code s d (suc m) h = omega arith
+
+-- of source and mask only the low eight bits count
+pub newByte-low : (code s d m : ℕ) → newByte code (s % 256) d (m % 256) ≡ newByte code s d m
+unfolding newByte
+newByte-low code s d m =
+    byte-ext (λ k. newBit code (bit k (s % 256)) (bit k d) (bit k (m % 256))) (λ k. newBit code (bit k s) (bit k d) (bit k m))
+    (λ k h. ap₂ (λ a b. newBit code a (bit k d) b) (bit-low k s h) (bit-low k m h))

@@ -1,0 +1,22 @@
+-- A command's pixels are few enough for 32 bits.
+-- Assumes nothing.
+use Prim.Native.Nat.{ℕ, _<_}
+use native.Mathlib.Omega.{arith}
+use Rattle.lemmas.proofs.Booleans.{by-cases}
+use Rattle.geometry.specs.Coordinates.{pointOf}
+use Rattle.geometry.proofs.Lines.{count-le, steps-lt}
+use Rattle.geometry.proofs.Blits.{count-lt}
+use Rattle.commands.specs.Visits.{commandIn, isBlit, isLine, lineStart, countOf}
+use Rattle.commands.specs.declared.Engine.{Engine}
+
+pub pixels-lt : (e : Engine) → e .registers .xy2 < 4294967296 → countOf e < 4294967296
+unfolding countOf
+pixels-lt e h =
+    by-cases (isBlit (commandIn e)) (λ t. rw t (count-lt (e .registers .xy2) h))
+    (λ t.
+    rw t
+    (by-cases (isLine (commandIn e))
+    (λ s.
+    rw s
+    (omega (arith, count-le (pointOf (lineStart e)) (pointOf (e .registers .xy1)) (commandIn e .nlst), steps-lt (lineStart e) (e .registers .xy1))))
+    (λ s. rw s (omega arith))))

@@ -1,0 +1,3 @@
+pub mod Visits
+pub mod Sources
+pub mod Steps
