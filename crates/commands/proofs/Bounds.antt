@@ -1,6 +1,6 @@
 -- A command's pixels are few enough for 32 bits.
 -- Assumes nothing.
-use Prim.Native.Nat.{ℕ, _<_}
+use Prim.Native.Nat.{_<_}
 use native.Mathlib.Omega.{arith}
 use Rattle.lemmas.proofs.Booleans.{by-cases}
 use Rattle.geometry.specs.Coordinates.{pointOf}

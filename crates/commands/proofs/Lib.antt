@@ -1,3 +1,5 @@
 pub mod Tests
 pub mod Marks
 pub mod Bounds
+pub mod Visits
+pub mod Examples

@@ -1,6 +1,6 @@
 -- The mark of a visit in its buffer, and the pattern after it.
 -- Assumes nothing.
-use mathlib.Core.Path.{_≡_, refl, ap, ap₂, sym, _∙_}
+use mathlib.Core.Path.{_≡_, ap, ap₂, sym, _∙_}
 use mathlib.Core.Bool.{Bool, true, false, not, cond, _&&_, and-true, and-false}
 use mathlib.Core.List.{List}
 use Prim.Native.Nat.{ℕ, _≤_}
@@ -12,10 +12,9 @@ use Rattle.geometry.specs.declared.Place.the-variants.{At, Outside}
 use Rattle.entries.specs.Fields.{patternControlOf}
 use Rattle.entries.specs.declared.fields.Command.{Command}
 use Rattle.registers.specs.Patterns.{nextOf}
-use Rattle.registers.specs.declared.dashes.Pattern.{Pattern}
 use Rattle.commands.specs.Visits.{commandIn, isLine, targetOf}
 use Rattle.commands.specs.Sources.{sourceOf}
-use Rattle.commands.specs.Steps.{Scene, scene, inked, inkedAt, through, patternAfter, advancedOf, visitOf}
+use Rattle.commands.specs.Steps.{scene, inked, inkedAt, patternAfter, advancedOf, visitOf}
 use Rattle.commands.proofs.Tests.{flag-is}
 use Rattle.commands.specs.declared.Engine.{Engine}
 use Rattle.commands.specs.declared.Source.{Source}

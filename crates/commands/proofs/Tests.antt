@@ -6,7 +6,6 @@ use mathlib.Core.List.{List}
 use Prim.Native.Nat.{ℕ}
 use borrow.Author.Tests.{eq-eqb, ne-eqb}
 use lib.Dec.{eqb}
-use lib.ListN.{getD}
 use Rattle.geometry.specs.Coordinates.{pointOf}
 use Rattle.geometry.specs.Clip.{rectOf, inRect, placeOf}
 use Rattle.geometry.specs.Blit.{blitVisit}
@@ -21,7 +20,6 @@ use Rattle.commands.specs.Visits.{commandIn, isLine, countOf, clippedOut
 use Rattle.commands.specs.Sources.{keyed, readAt, copiedAt, copiedOf}
 use Rattle.commands.specs.Steps.{setsPattern, finishes}
 use Rattle.commands.specs.declared.Engine.{Engine}
-use Rattle.commands.specs.declared.Source.{Source}
 use Rattle.commands.specs.declared.Source.the-variants.{Value, Nothing}
 
 -- c is the decoded command

@@ -1,5 +1,5 @@
 -- The source of a pixel (01, Pixels): a value, or nothing where nothing is drawn.
-use mathlib.Core.Bool.{Bool, true, false, not, cond, _&&_}
+use mathlib.Core.Bool.{cond, _&&_}
 use mathlib.Core.List.{List}
 use Prim.Native.Nat.{ℕ}
 use lib.Dec.{eqb}

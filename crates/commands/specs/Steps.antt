@@ -1,9 +1,10 @@
 -- One step on the two picture buffers: a pixel visited, or an entry taken (01, Steps and Pixels).
+use mathlib.Core.Path.{_≡_}
 use mathlib.Core.Bool.{Bool, true, false, not, cond, _&&_, _||_}
 use mathlib.Core.List.{List}
-use Prim.Native.Nat.{ℕ, _+_}
+use Prim.Native.Nat.{ℕ, zero, suc, _+_}
 use lib.Dec.{eqb, ltb}
-use lib.ListN.{getD, set}
+use lib.ListN.{length, getD, set}
 use Rattle.raster.specs.Raster.{newByte}
 use Rattle.geometry.specs.declared.Place.{Place}
 use Rattle.geometry.specs.declared.Place.the-variants.{At, Outside}
@@ -11,7 +12,6 @@ use Rattle.entries.specs.Fields.{patternControlOf}
 use Rattle.entries.specs.declared.decoding.Entry.{Entry}
 use Rattle.registers.specs.Registers.{freshRegisters, writtenOf}
 use Rattle.registers.specs.Patterns.{startOf, nextOf}
-use Rattle.registers.specs.declared.file.Registers.{Registers}
 use Rattle.registers.specs.declared.dashes.Pattern.{Pattern}
 use Rattle.commands.specs.Visits.{commandIn, isBlit, isLine, countOf, targetOf}
 use Rattle.commands.specs.Sources.{sourceOf}
@@ -92,6 +92,11 @@ visitOf width height s =
       virt = cond (commandIn e .«to_virtual») (inked e source place (s .virt)) (s .virt);
     }
 
+-- n pixels visited, one after the other.
+unfoldable pub visitsOf : ℕ → ℕ → ℕ → Scene → Scene
+visitsOf zero width height s = s
+visitsOf (suc n) width height s = visitOf width height (visitsOf n width height s)
+
 -- The pattern state that an entry leaves: "SPTR and SSCL on writing PCTRL, and at a line's trigger with PRST".
 abbrev pub setsPattern : ℕ → Engine → Bool
 setsPattern number e = eqb number 6 || (eqb number 12 && isLine (commandIn e) && commandIn e .prst)
@@ -128,3 +133,17 @@ triggeredOf number e =
 -- One entry taken.
 unfoldable pub takenOf : Engine → Entry → Engine
 takenOf e entry = triggeredOf (entry .register) (withWord e entry)
+
+-- What holds of every visit; proved in proofs/Visits.antt. Buffers keep their lengths.
+abbrev pub KeepsLengths : Type 0
+KeepsLengths =
+    (width height : ℕ) (s : Scene)
+    → (length (visitOf width height s .display) ≡ length (s .display)) × (length (visitOf width height s .virt) ≡ length (s .virt))
+
+-- A pixel that clip or buffer hides is visited and leaves buffers and pattern as they are.
+abbrev pub HiddenDrawsNothing : Type 0
+HiddenDrawsNothing =
+    (width height : ℕ) (s : Scene) → targetOf (s .engine) width height (s .engine .visited) ≡ Outside
+    → (visitOf width height s .display ≡ s .display)
+    × (visitOf width height s .virt ≡ s .virt)
+    × (visitOf width height s .engine .pattern ≡ s .engine .pattern)

@@ -1,5 +1,5 @@
 -- What a command visits, and which of its pixels clip and buffer let through (01, Pixels).
-use mathlib.Core.Bool.{Bool, true, false, not, cond, _&&_, _||_}
+use mathlib.Core.Bool.{Bool, not, cond, _&&_, _||_}
 use Prim.Native.Nat.{ℕ}
 use lib.Dec.{eqb}
 use Rattle.geometry.specs.Coordinates.{pointOf}
@@ -8,12 +8,11 @@ use Rattle.geometry.specs.Line.{lineCount, lineVisit}
 use Rattle.geometry.specs.Blit.{blitCount, blitVisit}
 use Rattle.geometry.specs.declared.Point.{Point}
 use Rattle.geometry.specs.declared.Place.{Place}
-use Rattle.geometry.specs.declared.Place.the-variants.{At, Outside}
+use Rattle.geometry.specs.declared.Place.the-variants.{Outside}
 use Rattle.geometry.specs.declared.Visit.{Visit}
 use Rattle.geometry.specs.declared.Visit.the-variants.{At as VisitAt, Past}
 use Rattle.entries.specs.Fields.{commandOf}
 use Rattle.entries.specs.declared.fields.Command.{Command}
-use Rattle.registers.specs.declared.file.Registers.{Registers}
 use Rattle.commands.specs.declared.Engine.{Engine}
 
 -- The command in CMD.
