@@ -1,11 +1,13 @@
 -- A command's pixels are few enough for 32 bits.
 -- Assumes nothing.
-use Prim.Native.Nat.{_<_}
+use mathlib.Core.Path.{_≡_, ap₂}
+use Prim.Native.Nat.{ℕ, _<_}
 use native.Mathlib.Omega.{arith}
 use Rattle.lemmas.proofs.Booleans.{by-cases}
 use Rattle.geometry.specs.Coordinates.{pointOf}
 use Rattle.geometry.proofs.Lines.{count-le, steps-lt}
 use Rattle.geometry.proofs.Blits.{count-lt}
+use Rattle.registers.specs.declared.file.Registers.{Registers}
 use Rattle.commands.specs.Visits.{commandIn, isBlit, isLine, lineStart, countOf}
 use Rattle.commands.specs.declared.Engine.{Engine}
 
@@ -20,3 +22,12 @@ pixels-lt e h =
     rw s
     (omega (arith, count-le (pointOf (lineStart e)) (pointOf (e .registers .xy1)) (commandIn e .nlst), steps-lt (lineStart e) (e .registers .xy1))))
     (λ s. rw s (omega arith))))
+
+-- of an engine the count reads registers and last point alone
+with-these : Engine → Registers → ℕ → Engine
+with-these e g last =
+    record { «under_way» = e .«under_way»; visited = e .visited; registers = g; pattern = e .pattern; last = last }
+
+pub count-same : (e f : Engine) → e .registers ≡ f .registers → e .last ≡ f .last → countOf e ≡ countOf f
+unfolding countOf with-these
+count-same e f p q = ap₂ (λ g last. countOf (with-these e g last)) p q

@@ -1,5 +1,6 @@
 pub mod Tests
 pub mod Marks
 pub mod Bounds
+pub mod Triggers
 pub mod Visits
 pub mod Examples

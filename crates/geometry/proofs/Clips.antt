@@ -33,11 +33,15 @@ pub area : (width height x y : ℕ) → x < width → y < height → y * width +
 area width height x y h l =
     omega (arith, mul-le-mul-right {m = y + 1} {n = height} width (omega arith), add-mul y 1 width, one-mul width, mul-comm height width)
 
-pub area-fits : (width height x y : ℕ) → width < 4294967296 → height < 4294967296 → x < width → y < height → y * width + x < 2 ^ 64
-area-fits width height x y hw hh h l =
-    let most : width * height ≤ 4294967295 * 4294967295 =
-    mul-le-mul {n₁ = width} {m₁ = height} {n₂ = 4294967295} {m₂ = 4294967295} (omega arith) (omega arith) in
-    omega (arith, area width height x y h l)
+-- the product of two 32-bit numbers fits 64 bits
+pub product-fits : (a b : ℕ) → a < 2 ^ 32 → b < 2 ^ 32 → a * b < 2 ^ 64
+product-fits a b h l =
+    let most : a * b ≤ 4294967295 * 4294967295 =
+    mul-le-mul {n₁ = a} {m₁ = b} {n₂ = 4294967295} {m₂ = 4294967295} (omega arith) (omega arith) in
+    omega arith
+
+pub area-fits : (width height x y : ℕ) → width < 2 ^ 32 → height < 2 ^ 32 → x < width → y < height → y * width + x < 2 ^ 64
+area-fits width height x y hw hh h l = omega (arith, area width height x y h l, product-fits width height hw hh)
 
 -- a point's place by the tests that it passes
 module _ (width height : ℕ) (p : Point) where

@@ -1,0 +1,6 @@
+pub mod Forms
+pub mod Chosen
+pub mod Keeps
+pub mod Goes
+pub mod Counts
+pub mod Calls

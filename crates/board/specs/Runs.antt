@@ -1,0 +1,83 @@
+-- Runs (01, Steps), and what the host hears of one (01, What the host hears).
+use mathlib.Core.Path.{_≡_}
+use mathlib.Core.Bool.{Bool, true, cond, _&&_}
+use mathlib.Core.List.{List}
+use Prim.Native.Nat.{ℕ, zero, suc, _+_, _*_, _≤_}
+use lib.Dec.{eqb}
+use lib.ListN.{length}
+use Rattle.board.specs.Record.{wellFormed}
+use Rattle.board.specs.Steps.{Machine, machine, nextOf, stepOf}
+use Rattle.board.specs.declared.record.Sizes.{Sizes}
+use Rattle.board.specs.declared.steps.Next.{Next}
+use Rattle.board.specs.declared.steps.Next.the-variants.{Idle, Visit, Take, Broken}
+use Rattle.board.specs.declared.runs.Heard.{Heard}
+use Rattle.board.specs.declared.runs.Heard.the-variants.{Done, Malformed, WrongSize, IllegalFetch}
+use Rattle.board.specs.declared.runs.Ran.{Ran}
+use Rattle.board.specs.declared.runs.Leap.{Leap}
+use Rattle.board.specs.declared.runs.Leap.the-variants.{Far, Idle as LeapIdle, Broken as LeapBroken}
+
+-- The paper's number, place and steps.
+pub record Told : Type 0 where
+  pub number : ℕ
+  pub place : ℕ
+  pub steps : ℕ
+
+-- "The place is zero but in 6, the step count but in 9 and in a done run."
+abbrev pub told : ℕ → ℕ → ℕ → Told
+told number place steps = record { number = number; place = place; steps = steps }
+
+abbrev pub toldOf : Heard → Told
+toldOf (Done steps) = told 0 0 steps
+toldOf Malformed = told 1 0 0
+toldOf WrongSize = told 2 0 0
+toldOf (IllegalFetch steps) = told 9 0 steps
+
+-- What a call answers, with record and buffers after it.
+pub record Outcome : Type 0 where
+  pub heard : Told
+  pub after : Machine
+
+abbrev pub outcome : Ran → List ℕ → List ℕ → Outcome
+outcome r d v = record { heard = toldOf (r .heard); after = machine (r .board) d v }
+
+abbrev pub ended : ℕ → Machine → Outcome
+ended number m = record { heard = told number 0 0; after = m }
+
+-- The same with k steps more.
+abbrev pub added : ℕ → Outcome → Outcome
+added k o = record { heard = told (o .heard .number) (o .heard .place) (o .heard .steps + k); after = o .after }
+
+-- A run of a well formed board: each step costs one of the budget; it ends where there is none left to do, and answers 9
+-- where it would fetch an illegal entry within the budget.
+abbrev pub byNext : Next → Machine → Outcome → Outcome
+byNext Idle m more = ended 0 m
+byNext Visit m more = added 1 more
+byNext (Take e) m more = added 1 more
+byNext Broken m more = ended 9 m
+
+unfoldable pub runOf : ℕ → List ℕ → Machine → Outcome
+runOf zero l m = ended 0 m
+runOf (suc budget) l m = byNext (nextOf l (m .board)) m (runOf budget l (stepOf l m))
+
+-- "a lent memory of another size": 5 bytes an entry, and width x height bytes a buffer
+abbrev pub lentOk : Sizes → ℕ → ℕ → ℕ → Bool
+lentOk z list display virt = eqb list (5 * z .entries) && eqb display (z .width * z .height) && eqb virt (z .width * z .height)
+
+-- "Run: 1, 2, 9", the lowest number first.
+unfoldable pub runCall : ℕ → List ℕ → Machine → Outcome
+runCall budget l m =
+    cond (wellFormed (m .board))
+    (cond (lentOk (m .board .sizes) (length l) (length (m .display)) (length (m .virt))) (runOf budget l m) (ended 2 m))
+    (ended 1 m)
+
+-- Several steps at once: k of them, at most `most`, lead from m to n, and any longer run goes on from n.
+pub record Leaped (l : List ℕ) (m : Machine) (most k : ℕ) (n : Machine) : Type 0 where
+  pub some : 1 ≤ k
+  pub few : k ≤ most
+  pub well : wellFormed (n .board) ≡ true
+  pub run : (r : ℕ) → runOf (r + k) l m ≡ added k (runOf r l n)
+
+abbrev pub LeapOk : List ℕ → Machine → ℕ → Leap → List ℕ → List ℕ → Type 0
+LeapOk l m most (Far b k) d v = Leaped l m most k (machine b d v)
+LeapOk l m most LeapIdle d v = (nextOf l (m .board) ≡ Idle) × (d ≡ m .display) × (v ≡ m .virt)
+LeapOk l m most LeapBroken d v = (nextOf l (m .board) ≡ Broken) × (d ≡ m .display) × (v ≡ m .virt)

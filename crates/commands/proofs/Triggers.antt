@@ -1,0 +1,28 @@
+-- A command that its trigger sets under way keeps its last point, and so its count, until it has finished.
+-- Assumes nothing.
+use mathlib.Core.Path.{_≡_, refl, ap, _∙_}
+use mathlib.Core.Bool.{Bool, true, false, cond, _&&_, _||_, and-false}
+use Prim.Native.Nat.{ℕ}
+use native.Mathlib.Omega.{arith}
+use borrow.Author.Tests.{ltb-true, ne-eqb}
+use lib.Dec.{eqb, ltb}
+use Rattle.lemmas.proofs.Booleans.{and-right}
+use Rattle.commands.specs.Visits.{commandIn, isBlit, isLine, countOf}
+use Rattle.commands.specs.Steps.{triggeredOf}
+use Rattle.commands.specs.declared.Engine.{Engine}
+use Rattle.commands.proofs.Bounds.{count-same}
+
+-- with pixels to visit the command has not finished
+unfinished : (n k : Bool) (c : ℕ) → (n && ltb 0 c) ≡ true → (n && k && eqb c 0) ≡ false
+unfinished n k c h =
+    let some = ltb-true 0 c (and-right n (ltb 0 c) h) in
+    ap (λ t. n && k && t) (ne-eqb c 0 (λ e. omega arith)) ∙ and-false (n && k)
+
+module _ (number : ℕ) (f : Engine) (h : (eqb number 12 && ltb 0 (countOf f)) ≡ true) where
+  triggered-last : triggeredOf number f .last ≡ f .last
+  triggered-last =
+      ap (λ t. cond t (f .registers .xy1) (f .last))
+      (unfinished (eqb number 12) (isBlit (commandIn f) || isLine (commandIn f)) (countOf f) h)
+
+  pub triggered-count : countOf (triggeredOf number f) ≡ countOf f
+  triggered-count = count-same (triggeredOf number f) f refl triggered-last
