@@ -11,6 +11,7 @@ use Rattle.registers.specs.Registers.{registersLegal}
 use Rattle.registers.specs.Patterns.{inRange}
 use Rattle.commands.specs.Visits.{countOf}
 use Rattle.board.specs.Record.{sizesOk, endOf, slotZeros, zerosOk, orderOk, spanOk, nextOk, visitedOk, wellFormed}
+use Rattle.board.specs.declared.record.Sizes.{Sizes}
 use Rattle.board.specs.declared.record.Slot.{Slot}
 use Rattle.board.specs.declared.record.Cursor.{Cursor}
 use Rattle.board.specs.declared.record.Board.{Board}
@@ -85,11 +86,30 @@ well-of b g =
     (g .visited)
 
 -- what the clauses say
+pub record Limits (z : Sizes) : Type 0 where
+  pub width-most : z .width ≤ 2048
+  pub height-most : z .height ≤ 2048
+  pub entries-most : z .entries ≤ 4096
+
+pub limits-of : (z : Sizes) → sizesOk z ≡ true → Limits z
+limits-of z h =
+    let w1 = leb 1 (z .width) in
+    let w2 = leb (z .width) 2048 in
+    let h1 = leb 1 (z .height) in
+    let h2 = leb (z .height) 2048 in
+    let e1 = leb 1 (z .entries) in
+    let e2 = leb (z .entries) 4096 in
+    let upto5 = and-left (w1 && w2 && h1 && h2 && e1) e2 h in
+    let upto4 = and-left (w1 && w2 && h1 && h2) e1 upto5 in
+    let upto3 = and-left (w1 && w2 && h1) h2 upto4 in
+    record {
+      width-most = leb-true (z .width) 2048 (and-right w1 w2 (and-left (w1 && w2) h1 upto3));
+      height-most = leb-true (z .height) 2048 (and-right (w1 && w2 && h1) h2 upto4);
+      entries-most = leb-true (z .entries) 4096 (and-right (w1 && w2 && h1 && h2 && e1) e2 h);
+    }
+
 pub entries-most : (b : Board) → Good b → b .sizes .entries ≤ 4096
-entries-most b g =
-    let z = b .sizes in
-    leb-true (z .entries) 4096
-    (and-right (leb 1 (z .width) && leb (z .width) 2048 && leb 1 (z .height) && leb (z .height) 2048 && leb 1 (z .entries)) (leb (z .entries) 4096) (g .sizes))
+entries-most b g = limits-of (b .sizes) (g .sizes) .entries-most
 
 pub record Span (s : Slot) (entries : ℕ) : Type 0 where
   pub some : 1 ≤ s .count

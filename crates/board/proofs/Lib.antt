@@ -3,4 +3,5 @@ pub mod Chosen
 pub mod Keeps
 pub mod Goes
 pub mod Counts
-pub mod Calls
+pub mod Callees
+pub mod Replies

@@ -1,4 +1,6 @@
 pub mod Record
+pub mod Answers
 pub mod Steps
 pub mod Runs
 pub mod Left
+pub mod Calls

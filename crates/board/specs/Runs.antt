@@ -10,34 +10,17 @@ use Rattle.board.specs.Steps.{Machine, machine, nextOf, stepOf}
 use Rattle.board.specs.declared.record.Sizes.{Sizes}
 use Rattle.board.specs.declared.steps.Next.{Next}
 use Rattle.board.specs.declared.steps.Next.the-variants.{Idle, Visit, Take, Broken}
-use Rattle.board.specs.declared.runs.Heard.{Heard}
-use Rattle.board.specs.declared.runs.Heard.the-variants.{Done, Malformed, WrongSize, IllegalFetch}
-use Rattle.board.specs.declared.runs.Ran.{Ran}
+use Rattle.board.specs.Answers.{Told, told, toldOf}
+use Rattle.board.specs.declared.answers.Answer.{Answer}
 use Rattle.board.specs.declared.runs.Leap.{Leap}
 use Rattle.board.specs.declared.runs.Leap.the-variants.{Far, Idle as LeapIdle, Broken as LeapBroken}
 
--- The paper's number, place and steps.
-pub record Told : Type 0 where
-  pub number : ℕ
-  pub place : ℕ
-  pub steps : ℕ
-
--- "The place is zero but in 6, the step count but in 9 and in a done run."
-abbrev pub told : ℕ → ℕ → ℕ → Told
-told number place steps = record { number = number; place = place; steps = steps }
-
-abbrev pub toldOf : Heard → Told
-toldOf (Done steps) = told 0 0 steps
-toldOf Malformed = told 1 0 0
-toldOf WrongSize = told 2 0 0
-toldOf (IllegalFetch steps) = told 9 0 steps
-
--- What a call answers, with record and buffers after it.
+-- What a run answers, with record and buffers after it.
 pub record Outcome : Type 0 where
   pub heard : Told
   pub after : Machine
 
-abbrev pub outcome : Ran → List ℕ → List ℕ → Outcome
+abbrev pub outcome : Answer → List ℕ → List ℕ → Outcome
 outcome r d v = record { heard = toldOf (r .heard); after = machine (r .board) d v }
 
 abbrev pub ended : ℕ → Machine → Outcome

@@ -1,11 +1,13 @@
-// The board record, one step, and a run of steps (document 01, What the engine has, What the host hears, and Steps).
+// The board record and the host's calls (document 01, What the engine has, What the host hears, and Steps).
+mod answers;
+mod calls;
 mod record;
 mod runs;
 mod steps;
 
+pub use answers::Answer;
+pub use answers::Heard;
 pub use record::Board;
 pub use record::Cursor;
 pub use record::Sizes;
 pub use record::Slot;
-pub use runs::Heard;
-pub use runs::Ran;

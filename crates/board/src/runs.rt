@@ -6,24 +6,11 @@ ghost use Prim.Native.Nat.{ℕ, _≤_, min};
 ghost use Rattle.board.specs.Record.{wellFormed};
 ghost use Rattle.board.specs.Steps.{machine};
 ghost use Rattle.board.specs.Runs.{outcome, runOf, lentOk, runCall, Leaped, LeapOk};
+use crate::answers::Answer;
+use crate::answers::Heard;
 use crate::record::Board;
 use crate::record::Sizes;
 use crate::steps::Next;
-
-// What the host hears.
-pub enum Heard {
-    // Done, with the steps of a run.
-    Done(u64),
-    Malformed,
-    WrongSize,
-    // An illegal entry was fetched after so many steps.
-    IllegalFetch(u64),
-}
-
-pub struct Ran {
-    pub heard: Heard,
-    pub board: Board,
-}
 
 // One or more steps done at once.
 pub enum Leap {
@@ -89,7 +76,7 @@ impl Board {
     }
 
     // As many steps as the budget allows.
-    fn run_steps(self, budget: u64, list: &[u8], display: &mut [u8], virt: &mut [u8]) -> Ran
+    fn run_steps(self, budget: u64, list: &[u8], display: &mut [u8], virt: &mut [u8]) -> Answer
         requires { ⌜ wellFormed self ≡ true ⌝ }
         ensures { λ r. ⌜ outcome r (now (display .exit)) (now (virt .exit)) ≡ runOf budget (now (list .entry)) (machine self (now (display .entry)) (now (virt .entry))) ⌝ }
     {
@@ -102,38 +89,38 @@ impl Board {
                     k = k + j;
                 }
                 Leap::Idle => {
-                    return Ran {
+                    return Answer {
                         heard: Heard::Done(k),
                         board: b,
                     };
                 }
                 Leap::Broken => {
-                    return Ran {
+                    return Answer {
                         heard: Heard::IllegalFetch(k),
                         board: b,
                     };
                 }
             }
         }
-        Ran {
+        Answer {
             heard: Heard::Done(k),
             board: b,
         }
     }
 
     // A run, with a budget of steps. The lists are read from list memory; both buffers are drawn on.
-    pub fn run(self, budget: u64, list: &[u8], display: &mut [u8], virt: &mut [u8]) -> Ran
+    pub fn run(self, budget: u64, list: &[u8], display: &mut [u8], virt: &mut [u8]) -> Answer
         ensures { λ r. ⌜ outcome r (now (display .exit)) (now (virt .exit)) ≡ runCall budget (now (list .entry)) (machine self (now (display .entry)) (now (virt .entry))) ⌝ }
     {
         let z = self.sizes;
         if !self.well_formed() {
-            return Ran {
+            return Answer {
                 heard: Heard::Malformed,
                 board: self,
             };
         }
         if !lent_ok(z, list.len(), display.len(), virt.len()) {
-            return Ran {
+            return Answer {
                 heard: Heard::WrongSize,
                 board: self,
             };

@@ -20,7 +20,7 @@ pub enum Next {
 }
 
 impl Board {
-    pub fn next_step(self, list: &[u8]) -> Next
+    pub(crate) fn next_step(self, list: &[u8]) -> Next
         ensures { λ r. ⌜ r ≡ nextOf (now (list .entry)) self ⌝ }
     {
         let c = self.active;
@@ -43,7 +43,7 @@ impl Board {
     }
 
     // Once its last step is done a list leaves, and the pending list becomes active.
-    pub fn settled(self) -> Board
+    pub(crate) fn settled(self) -> Board
         ensures { λ r. ⌜ r ≡ settledOf self ⌝ }
     {
         let z = self.sizes;
@@ -92,7 +92,7 @@ impl Board {
     }
 
     // The step of a pixel.
-    pub fn visited(self, display: &mut [u8], virt: &mut [u8]) -> Board
+    pub(crate) fn visited(self, display: &mut [u8], virt: &mut [u8]) -> Board
         ensures { λ r. ⌜ machine r (now (display .exit)) (now (virt .exit)) ≡ visitedOf (machine self (now (display .entry)) (now (virt .entry))) ⌝ }
     {
         let z = self.sizes;

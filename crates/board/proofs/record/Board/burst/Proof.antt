@@ -3,7 +3,7 @@ use Prim.Native.Nat.{_<_}
 use native.Mathlib.Omega.{arith}
 use Rattle.board.specs.Steps.{machine}
 use Rattle.board.proofs.Forms.{good-of, pixels-of}
-use Rattle.board.proofs.Calls.{burst-by}
+use Rattle.board.proofs.Callees.{burst-by}
 use Rattle.board.proofs.record.Board.burst.Statement.{statement}
 use Rattle.board.proofs.record.Board.burst.Tie as tie
 

@@ -3,7 +3,7 @@ use mathlib.Core.Path.{refl, sym, _∙_}
 use Rattle.board.specs.declared.steps.Next.the-variants.{Visit}
 use Rattle.board.proofs.Chosen.{chosen}
 use Rattle.board.proofs.Goes.{take-leaps}
-use Rattle.board.proofs.Calls.{take-room}
+use Rattle.board.proofs.Callees.{take-room}
 use Rattle.board.proofs.record.Board.leap.Statement.{statement}
 use Rattle.board.proofs.record.Board.leap.Tie as tie
 

@@ -3,7 +3,7 @@ use mathlib.Core.Path.{_≡_, sym, _∙_}
 use borrow.Author.Tests.{not-true, not-false}
 use Rattle.entries.specs.declared.decoding.Decoded.the-variants.{Whole}
 use Rattle.board.specs.Steps.{judged, nextOf}
-use Rattle.board.proofs.Calls.{next-visit, next-idle, next-read}
+use Rattle.board.proofs.Callees.{next-visit, next-idle, next-read}
 use Rattle.board.proofs.record.Board.next_step.Statement.{statement}
 use Rattle.board.proofs.record.Board.next_step.Tie as tie
 

@@ -1,6 +1,6 @@
 use borrow.Author.Needs.{needs}
 use Rattle.board.specs.Steps.{machine}
-use Rattle.board.proofs.Calls.{visited-by}
+use Rattle.board.proofs.Callees.{visited-by}
 use Rattle.board.proofs.record.Board.visited.Statement.{statement}
 use Rattle.board.proofs.record.Board.visited.Tie as tie
 

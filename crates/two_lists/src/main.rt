@@ -1,0 +1,69 @@
+// Document 01's example of two lists: one list posted twice and a third time, run in pieces, with a store into its entries
+// before and after it has ended. Each call's answer, steps and the lists that are left are printed.
+use board::Answer;
+use board::Board;
+use libc::STDOUT_FILENO;
+
+// How many slots are taken.
+fn lists(b: Board) -> u64 {
+    let c = b.active;
+    let s = c.slot;
+    let p = b.pending;
+    if p.taken {
+        return 2;
+    }
+    if s.taken { 1 } else { 0 }
+}
+
+fn tell(call: &[u8], a: Answer) {
+    let heard = a.heard;
+    let b = a.board;
+    io::write_all(STDOUT_FILENO, call);
+    io::print_decimal(STDOUT_FILENO, heard.number() as u64);
+    io::write_all(STDOUT_FILENO, b" steps ");
+    io::print_decimal(STDOUT_FILENO, heard.steps());
+    io::write_all(STDOUT_FILENO, b" lists ");
+    io::print_decimal(STDOUT_FILENO, lists(b));
+    io::write_all(STDOUT_FILENO, b"\n");
+}
+
+fn main() {
+    let mut list = [0u8; 20480];
+    let entry = [8u8, 0, 0, 0, 7];
+    let mut display = [0u8; 32];
+    let mut virt = [0u8; 32];
+    // FORE 7; a solid LINE with raster code 3; XY0 (0, 0); XY1 (4, 2)
+    list[0] = 8;
+    list[4] = 7;
+    list[6] = 35;
+    list[7] = 128;
+    list[10] = 72;
+    list[15] = 96;
+    list[17] = 4;
+    list[19] = 2;
+    let made = Board::make(8, 4, 4096);
+    let b0 = made.board;
+    let a1 = b0.post(&list, 0, 4);
+    tell(b"post ", a1);
+    let b1 = a1.board;
+    let a2 = b1.post(&list, 0, 4);
+    tell(b"post ", a2);
+    let b2 = a2.board;
+    let a3 = b2.post(&list, 0, 4);
+    tell(b"post ", a3);
+    let b3 = a3.board;
+    let a4 = b3.run(9, &list, &mut display, &mut virt);
+    tell(b"run ", a4);
+    let b4 = a4.board;
+    let a5 = b4.run(3, &list, &mut display, &mut virt);
+    tell(b"run ", a5);
+    let b5 = a5.board;
+    let a6 = b5.store(&mut list, 0, &entry);
+    tell(b"store ", a6);
+    let b6 = a6.board;
+    let a7 = b6.run(100, &list, &mut display, &mut virt);
+    tell(b"run ", a7);
+    let b7 = a7.board;
+    let a8 = b7.store(&mut list, 0, &entry);
+    tell(b"store ", a8);
+}
