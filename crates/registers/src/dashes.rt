@@ -1,7 +1,9 @@
 // The line pattern's state.
 ghost use mathlib.Core.Path.{_≡_};
+ghost use Rattle.entries.specs.Fields.{patternControlOf};
 ghost use Rattle.registers.specs.Patterns.{startOf, patternBit, nextOf, inRange};
 use entries::PatternControl;
+use entries::pattern_control_of;
 
 // Document 01's pattern state: a place in LPAT and a repeat.
 pub struct Pattern {
@@ -60,4 +62,18 @@ impl Pattern {
     {
         (self.place < control.length) & (self.repeat < control.scale)
     }
+}
+
+// The state after one more pixel, of the pattern that PCTRL describes.
+pub fn next_by(p: Pattern, pctrl: u32) -> Pattern
+    ensures { λ r. ⌜ r ≡ nextOf (patternControlOf pctrl) p ⌝ }
+{
+    p.next(pattern_control_of(pctrl))
+}
+
+// The same of a state that is lent.
+pub fn advance(p: &mut Pattern, pctrl: u32)
+    ensures { λ _. ⌜ now (p .exit) ≡ nextOf (patternControlOf pctrl) (now (p .entry)) ⌝ }
+{
+    *p = next_by(*p, pctrl);
 }

@@ -3,4 +3,6 @@ mod dashes;
 mod file;
 
 pub use dashes::Pattern;
+pub use dashes::advance;
+pub use dashes::next_by;
 pub use file::Registers;
