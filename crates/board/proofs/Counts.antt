@@ -42,16 +42,16 @@ entries-more : (l : List ℕ) (k n r : ℕ) → n ≡ r + 1 → entriesFrom l k 
 unfolding entriesFrom
 entries-more l k n r e = rw (e, add-one r, add-one k)
 
-rest-end : (l : List ℕ) (c : Cursor) → endOf (c .slot) ≤ c .next → restOf l c ≡ []
+pub rest-end : (l : List ℕ) (c : Cursor) → endOf (c .slot) ≤ c .next → restOf l c ≡ []
 rest-end l c h = entries-none l (c .next) (endOf (c .slot) - c .next) (omega arith)
 
-rest-next : (l : List ℕ) (c : Cursor) → c .next < endOf (c .slot)
+pub rest-next : (l : List ℕ) (c : Cursor) → c .next < endOf (c .slot)
     → restOf l c ≡ entryOf l (c .next) ∷ restOf l (record { slot = c .slot; next = c .next + 1 })
 rest-next l c h =
     entries-more l (c .next) (endOf (c .slot) - c .next) (endOf (c .slot) - (c .next + 1)) (omega arith)
 
 -- the next list takes its turn with no step
-ended-to-come : (l : List ℕ) (b : Board) → endOf (b .active .slot) ≤ b .active .next
+pub ended-to-come : (l : List ℕ) (b : Board) → endOf (b .active .slot) ≤ b .active .next
     → restOf l (cursorOn (b .pending)) ++ restOf l (cursorOn emptySlot) ≡ toCome l b
 ended-to-come l b h =
     ap (_++_ (restOf l (cursorOn (b .pending)))) (rest-end l (cursorOn emptySlot) (omega arith))
@@ -164,7 +164,7 @@ module _ (e : Engine) (x : Entry) where
   entry-cost es = rw (taken-pixels, taken-last, taken-registers) (omega arith)
 
 -- the entry that is taken heads those to come
-decoded-is : (l : List ℕ) (k : ℕ) (x : Entry) → decodedOf l k ≡ Whole x → entryOf l k ≡ x
+pub decoded-is : (l : List ℕ) (k : ℕ) (x : Entry) → decodedOf l k ≡ Whole x → entryOf l k ≡ x
 decoded-is l k x d =
     by-cases (ltb k (length l / 5)) (λ t. let w = decoded-whole l k (ltb-true k (length l / 5) t) in cc)
     (λ t.
@@ -172,7 +172,7 @@ decoded-is l k x d =
     let z : _≡_ {A = ℕ} 0 1 = cc in
     absurd (omega arith))
 
-to-come-next : (l : List ℕ) (b : Board) (x : Entry) → b .active .next < endOf (b .active .slot) → entryOf l (b .active .next) ≡ x
+pub to-come-next : (l : List ℕ) (b : Board) (x : Entry) → b .active .next < endOf (b .active .slot) → entryOf l (b .active .next) ≡ x
     → toCome l b ≡ x ∷ toCome l (withNext b (b .active .next + 1))
 to-come-next l b x h e =
     ap (λ es. es ++ restOf l (cursorOn (b .pending))) (rest-next l (b .active) h)

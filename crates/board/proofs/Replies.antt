@@ -1,4 +1,4 @@
--- What make, post and store answer, by the tests that a call passes.
+-- What post, store and window write answer, by the tests that a call passes.
 -- Assumes nothing.
 use mathlib.Core.Path.{_≡_, refl, ap, sym, _∙_}
 use mathlib.Core.Bool.{Bool, true, false, _&&_, _||_}
@@ -7,13 +7,13 @@ use Prim.Native.Nat.{ℕ, zero, suc, _+_, _-_, _*_, _/_, _%_, _≤_, _<_}
 use native.Mathlib.Numerals.{add-one}
 use native.Mathlib.Omega.{arith}
 use borrow.Author.Tests.{eq-eqb, ne-eqb, le-leb, lt-leb}
-use lib.Dec.{eqb}
+use lib.Dec.{eqb, leb}
 use lib.ListN.{length, getD, set, take, drop}
 use lib.Seq.{paste, paste-zero, paste-suc, take-length}
 use Rattle.entries.specs.Legality.{firstIllegal}
 use Rattle.entries.specs.declared.legality.Illegal.{Illegal}
 use Rattle.board.specs.Record.{sizesOk, wellFormed}
-use Rattle.board.specs.Calls.{answered, freshBoard, sizes, makeCall, postBy, postCall, putInto, touches, kept, storeCall}
+use Rattle.board.specs.Calls.{answered, freshBoard, sizes, makeCall, postBy, postCall, putInto, touches, kept, storeCall, writeCall}
 use Rattle.board.specs.declared.record.Board.{Board}
 
 -- ---- post
@@ -107,3 +107,30 @@ module _ (l : List ℕ) (first : ℕ) (bytes : List ℕ) (b : Board) where
             → (m : List ℕ) → m ≡ putInto l (5 * first) bytes → kept 0 b m ≡ storeCall l first bytes b
         unfolding storeCall
         store-done h m e = rw (w, long, le-leb (first + length bytes / 5) (b .sizes .entries) fits, h) (ap (kept 0 b) e)
+
+-- ---- window write
+module _ (number offset : ℕ) (bytes buffer : List ℕ) (b : Board) where
+  pub write-malformed : wellFormed b ≡ false → kept 1 b buffer ≡ writeCall number offset bytes buffer b
+  unfolding writeCall
+  write-malformed w = rw w
+
+  module _ (w : wellFormed b ≡ true) where
+    pub write-wrong-size : (leb number 1 && eqb (length buffer) (b .sizes .width * b .sizes .height)) ≡ false
+        → kept 2 b buffer ≡ writeCall number offset bytes buffer b
+    unfolding writeCall
+    write-wrong-size e = rw (w, e)
+
+    module _ (named : (leb number 1 && eqb (length buffer) (b .sizes .width * b .sizes .height)) ≡ true) where
+      pub write-past : b .sizes .width * b .sizes .height < offset + length bytes → kept 4 b buffer ≡ writeCall number offset bytes buffer b
+      unfolding writeCall
+      write-past h = rw (w, named, lt-leb (offset + length bytes) (b .sizes .width * b .sizes .height) h)
+
+      module _ (fits : offset + length bytes ≤ b .sizes .width * b .sizes .height) where
+        pub write-busy : (b .active .slot .taken || b .pending .taken) ≡ true → kept 7 b buffer ≡ writeCall number offset bytes buffer b
+        unfolding writeCall
+        write-busy h = rw (w, named, le-leb (offset + length bytes) (b .sizes .width * b .sizes .height) fits, h)
+
+        pub write-done : (b .active .slot .taken || b .pending .taken) ≡ false → (m : List ℕ) → m ≡ putInto buffer offset bytes
+            → kept 0 b m ≡ writeCall number offset bytes buffer b
+        unfolding writeCall
+        write-done h m e = rw (w, named, le-leb (offset + length bytes) (b .sizes .width * b .sizes .height) fits, h) (ap (kept 0 b) e)

@@ -1,7 +1,7 @@
 -- What the host hears (01, What the host hears): number, place and steps for each answer.
 use Prim.Native.Nat.{ℕ}
 use Rattle.board.specs.declared.answers.Heard.{Heard}
-use Rattle.board.specs.declared.answers.Heard.the-variants.{Done, Malformed, WrongSize, NoEntries, PastTheEnd, SlotsTaken, IllegalEntry, EntryHeld, IllegalFetch}
+use Rattle.board.specs.declared.answers.Heard.the-variants.{Done, Malformed, WrongSize, NoEntries, PastTheEnd, SlotsTaken, IllegalEntry, SlotTaken, EntryHeld, IllegalFetch}
 
 -- The paper's number, place and steps.
 pub record Told : Type 0 where
@@ -21,5 +21,6 @@ toldOf NoEntries = told 3 0 0
 toldOf PastTheEnd = told 4 0 0
 toldOf SlotsTaken = told 5 0 0
 toldOf (IllegalEntry place) = told 6 place 0
+toldOf SlotTaken = told 7 0 0
 toldOf EntryHeld = told 8 0 0
 toldOf (IllegalFetch steps) = told 9 0 steps

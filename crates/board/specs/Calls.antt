@@ -1,4 +1,4 @@
--- The calls make, post and store (01, What the engine has, and What the host hears), each with its refusals in the order
+-- The calls make, post, store and window write (01, What the engine has, and What the host hears), each with its refusals in the order
 -- of their numbers.
 use mathlib.Core.Bool.{Bool, true, false, cond, _&&_, _||_}
 use mathlib.Core.List.{List, _++_}
@@ -75,19 +75,20 @@ putInto l at bytes = take at l ++ bytes ++ drop (at + length bytes) l
 abbrev pub touches : Slot → ℕ → ℕ → Bool
 touches s first n = s .taken && ltb 0 n && ltb first (endOf s) && ltb (s .start) (first + n)
 
-pub record Storage : Type 0 where
+-- What a call answers that is lent a memory to write, with that memory after it.
+pub record Written : Type 0 where
   pub heard : Told
   pub board : Board
-  pub list : List ℕ
+  pub memory : List ℕ
 
-abbrev pub storage : Answer → List ℕ → Storage
-storage a list = record { heard = toldOf (a .heard); board = a .board; list = list }
+abbrev pub written : Answer → List ℕ → Written
+written a memory = record { heard = toldOf (a .heard); board = a .board; memory = memory }
 
-abbrev pub kept : ℕ → Board → List ℕ → Storage
-kept number b list = record { heard = told number 0 0; board = b; list = list }
+abbrev pub kept : ℕ → Board → List ℕ → Written
+kept number b memory = record { heard = told number 0 0; board = b; memory = memory }
 
 -- "List store: 1, 2, 4, 8."
-unfoldable pub storeCall : List ℕ → ℕ → List ℕ → Board → Storage
+unfoldable pub storeCall : List ℕ → ℕ → List ℕ → Board → Written
 storeCall list first bytes b =
     cond (wellFormed b)
     (cond (eqb (length list) (5 * b .sizes .entries) && eqb (length bytes % 5) 0)
@@ -97,3 +98,14 @@ storeCall list first bytes b =
     (kept 4 b list))
     (kept 2 b list))
     (kept 1 b list)
+
+-- "Window write (buffer, offset, bytes): 1, 2, 4, 7." The memory lent is the named buffer.
+unfoldable pub writeCall : ℕ → ℕ → List ℕ → List ℕ → Board → Written
+writeCall number offset bytes buffer b =
+    cond (wellFormed b)
+    (cond (leb number 1 && eqb (length buffer) (b .sizes .width * b .sizes .height))
+    (cond (leb (offset + length bytes) (b .sizes .width * b .sizes .height))
+    (cond (b .active .slot .taken || b .pending .taken) (kept 7 b buffer) (kept 0 b (putInto buffer offset bytes)))
+    (kept 4 b buffer))
+    (kept 2 b buffer))
+    (kept 1 b buffer)

@@ -13,6 +13,7 @@ pub enum Heard {
     SlotsTaken,
     // The place of the first illegal entry.
     IllegalEntry(usize),
+    SlotTaken,
     EntryHeld,
     // An illegal entry was fetched after so many steps.
     IllegalFetch(u64),
@@ -36,6 +37,7 @@ impl Heard {
             Heard::PastTheEnd => 4,
             Heard::SlotsTaken => 5,
             Heard::IllegalEntry(_) => 6,
+            Heard::SlotTaken => 7,
             Heard::EntryHeld => 8,
             Heard::IllegalFetch(_) => 9,
         }
@@ -53,6 +55,7 @@ impl Heard {
             Heard::PastTheEnd => 0,
             Heard::SlotsTaken => 0,
             Heard::IllegalEntry(_) => 0,
+            Heard::SlotTaken => 0,
             Heard::EntryHeld => 0,
             Heard::IllegalFetch(steps) => steps,
         }
@@ -70,6 +73,7 @@ impl Heard {
             Heard::PastTheEnd => 0,
             Heard::SlotsTaken => 0,
             Heard::IllegalEntry(place) => place,
+            Heard::SlotTaken => 0,
             Heard::EntryHeld => 0,
             Heard::IllegalFetch(_) => 0,
         }

@@ -1,8 +1,8 @@
-// The calls make, post and store.
+// The calls make, post, store and window write.
 ghost use mathlib.Core.Path.{_≡_};
 ghost use Prim.Native.Nat.{_+_, _≤_};
 ghost use lib.ListN.{length};
-ghost use Rattle.board.specs.Calls.{reply, freshBoard, makeCall, postedOf, postCall, putInto, touches, storage, storeCall};
+ghost use Rattle.board.specs.Calls.{reply, freshBoard, makeCall, postedOf, postCall, putInto, touches, written, storeCall, writeCall};
 use crate::answers::Answer;
 use crate::answers::Heard;
 use crate::record::Board;
@@ -179,7 +179,7 @@ impl Board {
 
     // Bytes are stored into list memory from an entry on.
     pub fn store(self, list: &mut [u8], first: usize, bytes: &[u8]) -> Answer
-        ensures { λ r. ⌜ storage r (now (list .exit)) ≡ storeCall (now (list .entry)) first (now (bytes .entry)) self ⌝ }
+        ensures { λ r. ⌜ written r (now (list .exit)) ≡ storeCall (now (list .entry)) first (now (bytes .entry)) self ⌝ }
     {
         let z = self.sizes;
         let c = self.active;
@@ -217,6 +217,58 @@ impl Board {
             };
         }
         put(list, 5 * first, bytes);
+        Answer {
+            heard: Heard::Done(0),
+            board: self,
+        }
+    }
+
+    // Bytes are written into the display (0) or the virtual buffer (1), from an offset on.
+    pub fn window_write(
+        self,
+        number: usize,
+        offset: usize,
+        bytes: &[u8],
+        buffer: &mut [u8],
+    ) -> Answer
+        ensures { λ r. ⌜ written r (now (buffer .exit)) ≡ writeCall number offset (now (bytes .entry)) (now (buffer .entry)) self ⌝ }
+    {
+        let z = self.sizes;
+        let c = self.active;
+        let s = c.slot;
+        let p = self.pending;
+        if !self.well_formed() {
+            return Answer {
+                heard: Heard::Malformed,
+                board: self,
+            };
+        }
+        let area = (z.width as usize) * (z.height as usize);
+        if !((number <= 1) & (buffer.len() == area)) {
+            return Answer {
+                heard: Heard::WrongSize,
+                board: self,
+            };
+        }
+        if area < offset {
+            return Answer {
+                heard: Heard::PastTheEnd,
+                board: self,
+            };
+        }
+        if area - offset < bytes.len() {
+            return Answer {
+                heard: Heard::PastTheEnd,
+                board: self,
+            };
+        }
+        if s.taken | p.taken {
+            return Answer {
+                heard: Heard::SlotTaken,
+                board: self,
+            };
+        }
+        put(buffer, offset, bytes);
         Answer {
             heard: Heard::Done(0),
             board: self,

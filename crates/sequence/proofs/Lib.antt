@@ -1,0 +1,5 @@
+pub mod Stays
+pub mod Abstract
+pub mod Commutes
+pub mod Sequence
+pub mod Rows

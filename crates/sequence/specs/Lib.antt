@@ -1,0 +1,4 @@
+pub mod Paper
+pub mod World
+pub mod Demand
+pub mod Examples

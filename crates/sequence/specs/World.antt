@@ -1,0 +1,41 @@
+-- A board with its memories, and what each call does to them, by the definitions that the contracts of `board` cite.
+use mathlib.Core.Bool.{cond}
+use mathlib.Core.List.{List}
+use Prim.Native.Nat.{ℕ}
+use lib.Dec.{eqb}
+use Rattle.board.specs.Answers.{Told}
+use Rattle.board.specs.Steps.{machine}
+use Rattle.board.specs.Runs.{runCall}
+use Rattle.board.specs.Calls.{postCall, storeCall, writeCall}
+use Rattle.board.specs.declared.record.Board.{Board}
+use Rattle.sequence.specs.Paper.{Call, post, store, write, run}
+
+pub record World : Type 0 where
+  pub board : Board
+  pub list : List ℕ
+  pub display : List ℕ
+  pub virt : List ℕ
+
+abbrev pub world : Board → List ℕ → List ℕ → List ℕ → World
+world b l d v = record { board = b; list = l; display = d; virt = v }
+
+pub record Called : Type 0 where
+  pub heard : Told
+  pub after : World
+
+-- "Post and store are lent the list memory, a window write the named buffer, a run all three."
+unfoldable pub called : Call → World → Called
+called (post start count) w =
+    let r = postCall (w .list) start count (w .board) in
+    record { heard = r .heard; after = world (r .board) (w .list) (w .display) (w .virt) }
+called (store first bytes) w =
+    let r = storeCall (w .list) first bytes (w .board) in
+    record { heard = r .heard; after = world (r .board) (r .memory) (w .display) (w .virt) }
+called (write number offset bytes) w =
+    let d = writeCall number offset bytes (w .display) (w .board) in
+    let v = writeCall number offset bytes (w .virt) (w .board) in
+    cond (eqb number 0) (record { heard = d .heard; after = world (d .board) (w .list) (d .memory) (w .virt) })
+    (record { heard = v .heard; after = world (v .board) (w .list) (w .display) (v .memory) })
+called (run budget) w =
+    let r = runCall budget (w .list) (machine (w .board) (w .display) (w .virt)) in
+    record { heard = r .heard; after = world (r .after .board) (w .list) (r .after .display) (r .after .virt) }
