@@ -19,7 +19,8 @@ use Rattle.sequence.specs.Paper.{Call, Paper, paper, fed}
 use Rattle.sequence.specs.World.{World, world, Called, called}
 use Rattle.sequence.specs.Demand.{queueSpans, Equal, Reports, Holds, Demand3}
 use Rattle.sequence.proofs.Abstract.{paperOf, Valid, spans-same}
-use Rattle.sequence.proofs.Commutes.{Kept, keeps, reports}
+use Rattle.sequence.proofs.Kept.{Kept}
+use Rattle.sequence.proofs.Commutes.{keeps, reports}
 
 equals : (w : World) (c : Call) (o : Called) (p : Paper) → Kept w c o → paperOf (o .after) ≡ p → Equal o p
 equals w c o p k e =

@@ -1,0 +1,127 @@
+-- A window write does to the board what feeding it does to the paper board.
+-- Assumes nothing.
+use mathlib.Core.Path.{_≡_, refl, ap, ap₂, sym, subst, _∙_}
+use mathlib.Core.Bool.{true, false, cond, _&&_, _||_}
+use mathlib.Core.List.{List, [], _∷_, _++_}
+use Prim.Native.Nat.{ℕ, _+_, _*_, _≤_}
+use native.Mathlib.Omega.{arith}
+use borrow.Author.Tests.{leb-true, leb-false}
+use lib.Dec.{eqb, leb}
+use lib.ListN.{length}
+use Rattle.lemmas.proofs.Booleans.{by-cases, or-none-left, or-none-right}
+use Rattle.commands.specs.Steps.{Scene, scene}
+use Rattle.board.specs.Answers.{told}
+use Rattle.board.specs.Steps.{cursorOn}
+use Rattle.board.specs.Calls.{putInto, Written, kept, writeCall}
+use Rattle.board.proofs.Replies.{write-wrong-size, write-past, write-busy, write-done}
+use Rattle.sequence.specs.Paper.{write, window, paper, writtenTo, flushed, fed}
+use Rattle.sequence.specs.World.{World, world, Called, called}
+use Rattle.sequence.proofs.Stays.{put-length}
+use Rattle.sequence.proofs.Abstract.{queueOf, Valid}
+use Rattle.sequence.proofs.Kept.{Kept, refused, no-items}
+
+module _ (w : World) (v : Valid w) (number offset : ℕ) (bytes : List ℕ) where
+  -- a board at rest has an empty queue
+  idle-queue : (w .board .active .slot .taken || w .board .pending .taken) ≡ false → queueOf (w .list) (w .board) ≡ []
+  idle-queue u =
+      let b = w .board in
+      ap₂ _++_ (no-items (w .list) (b .active) (or-none-left (b .active .slot .taken) (b .pending .taken) u))
+      (no-items (w .list) (cursorOn (b .pending)) (or-none-right (b .active .slot .taken) (b .pending .taken) u))
+
+  write-refused : (answer : ℕ) → (answer ≡ 0 → ⊥) → (answer ≡ 1 → ⊥) → (answer ≡ 9 → ⊥)
+      → Kept w (write number offset bytes) (record { heard = kept answer (w .board) (w .list) .heard; after = w })
+  unfolding fed
+  write-refused answer a b c = refused w v (write number offset bytes) (told answer 0 0) refl a b c
+
+  -- the queue is empty and the write is done at once
+  written-at-once : (s : Scene) → (w .board .active .slot .taken || w .board .pending .taken) ≡ false
+      → writtenTo number offset bytes (scene (w .board .engine) (w .display) (w .virt)) ≡ s
+      → flushed (scene (w .board .engine) (w .display) (w .virt)) (w .list) (queueOf (w .list) (w .board) ++ (window number offset bytes ∷ []))
+      ≡ paper s (w .list) (queueOf (w .list) (w .board))
+  unfolding flushed
+  written-at-once s u e =
+      let empty = idle-queue u in
+      ap (λ q. flushed (scene (w .board .engine) (w .display) (w .virt)) (w .list) (q ++ (window number offset bytes ∷ []))) empty
+      ∙ ap (λ s. paper s (w .list) []) e ∙ ap (paper s (w .list)) (sym empty)
+
+  -- by the tests that the call passes, whichever buffer is named
+  write-by : (buffer : List ℕ) → (lent : Written → Called)
+      → ((answer : ℕ) → (answer ≡ 0 → ⊥) → (answer ≡ 1 → ⊥) → (answer ≡ 9 → ⊥)
+      → Kept w (write number offset bytes) (lent (kept answer (w .board) buffer)))
+      → (offset + length bytes ≤ w .board .sizes .width * w .board .sizes .height
+      → (w .board .active .slot .taken || w .board .pending .taken) ≡ false
+      → Kept w (write number offset bytes) (lent (kept 0 (w .board) (putInto buffer offset bytes))))
+      → Kept w (write number offset bytes) (lent (writeCall number offset bytes buffer (w .board)))
+  write-by buffer lent refused done =
+      let b = w .board in
+      let pixels = b .sizes .width * b .sizes .height in
+      let K : Written → Type 0 = λ r. Kept w (write number offset bytes) (lent r) in
+      by-cases (leb number 1 && eqb (length buffer) pixels)
+      (λ t.
+      by-cases (leb (offset + length bytes) pixels)
+      (λ f.
+      let fits = leb-true (offset + length bytes) pixels f in
+      by-cases (b .active .slot .taken || b .pending .taken)
+      (λ u. subst K (write-busy number offset bytes buffer b (v .well) t fits u) (refused 7 (λ e. omega arith) (λ e. omega arith) (λ e. omega arith)))
+      (λ u. subst K (write-done number offset bytes buffer b (v .well) t fits u (putInto buffer offset bytes) refl) (done fits u)))
+      (λ f.
+      subst K (write-past number offset bytes buffer b (v .well) t (leb-false (offset + length bytes) pixels f))
+      (refused 4 (λ e. omega arith) (λ e. omega arith) (λ e. omega arith))))
+      (λ t. subst K (write-wrong-size number offset bytes buffer b (v .well) t) (refused 2 (λ e. omega arith) (λ e. omega arith) (λ e. omega arith)))
+
+  abbrev toDisplay : Written → Called
+  toDisplay r = record { heard = r .heard; after = world (r .board) (w .list) (r .memory) (w .virt) }
+
+  abbrev toVirtual : Written → Called
+  toVirtual r = record { heard = r .heard; after = world (r .board) (w .list) (w .display) (r .memory) }
+
+  -- a done write: buffers of the same lengths, as the paper board writes them
+  write-puts : (d e : List ℕ) → length d ≡ length (w .display) → length e ≡ length (w .virt)
+      → (w .board .active .slot .taken || w .board .pending .taken) ≡ false
+      → writtenTo number offset bytes (scene (w .board .engine) (w .display) (w .virt)) ≡ scene (w .board .engine) d e
+      → Kept w (write number offset bytes) (record { heard = told 0 0 0; after = world (w .board) (w .list) d e })
+  unfolding fed
+  write-puts d e d-long e-long u same =
+      record {
+        valid =
+            record {
+              well = v .well;
+              list-long = v .list-long;
+              display-long = d-long ∙ v .display-long;
+              virt-long = e-long ∙ v .virt-long;
+              legal = v .legal;
+            };
+        sizes-same = refl;
+        paper-same = written-at-once (scene (w .board .engine) d e) u same;
+        not-malformed = λ h. omega arith;
+        no-nine = λ h. omega arith;
+      }
+
+  display-done : eqb number 0 ≡ true → offset + length bytes ≤ w .board .sizes .width * w .board .sizes .height
+      → (w .board .active .slot .taken || w .board .pending .taken) ≡ false
+      → Kept w (write number offset bytes) (toDisplay (kept 0 (w .board) (putInto (w .display) offset bytes)))
+  display-done t fits u =
+      let d = putInto (w .display) offset bytes in
+      let e = w .board .engine in
+      write-puts d (w .virt) (put-length (w .display) offset bytes (omega (arith, v .display-long))) refl u
+      (ap (λ t. cond t (scene e d (w .virt)) (scene e (w .display) (putInto (w .virt) offset bytes))) t)
+
+  virtual-done : eqb number 0 ≡ false → offset + length bytes ≤ w .board .sizes .width * w .board .sizes .height
+      → (w .board .active .slot .taken || w .board .pending .taken) ≡ false
+      → Kept w (write number offset bytes) (toVirtual (kept 0 (w .board) (putInto (w .virt) offset bytes)))
+  virtual-done t fits u =
+      let d = putInto (w .virt) offset bytes in
+      let e = w .board .engine in
+      write-puts (w .display) d refl (put-length (w .virt) offset bytes (omega (arith, v .virt-long))) u
+      (ap (λ t. cond t (scene e (putInto (w .display) offset bytes) (w .virt)) (scene e (w .display) d)) t)
+
+  pub write-kept : Kept w (write number offset bytes) (called (write number offset bytes) w)
+  unfolding called
+  write-kept =
+      let b = w .board in
+      let c = write number offset bytes in
+      let onDisplay = toDisplay (writeCall number offset bytes (w .display) b) in
+      let onVirtual = toVirtual (writeCall number offset bytes (w .virt) b) in
+      by-cases (eqb number 0)
+      (λ t. subst (λ t. Kept w c (cond t onDisplay onVirtual)) (sym t) (write-by (w .display) toDisplay write-refused (display-done t)))
+      (λ t. subst (λ t. Kept w c (cond t onDisplay onVirtual)) (sym t) (write-by (w .virt) toVirtual write-refused (virtual-done t)))
