@@ -12,9 +12,10 @@ use Rattle.entries.specs.declared.decoding.Decoded.{Decoded}
 use Rattle.commands.specs.Visits.{countOf}
 use Rattle.commands.specs.Steps.{scene, visitsOf}
 use Rattle.commands.specs.declared.Engine.{Engine}
+use Rattle.slots.specs.Slots.{lentOk}
 use Rattle.board.specs.Record.{wellFormed}
 use Rattle.board.specs.Steps.{Machine, machine, withEngine, judged, nextOf, settledOf, sceneOf, visitedScene, visitedOf}
-use Rattle.board.specs.Runs.{Outcome, ended, runOf, lentOk, runCall, Leaped}
+use Rattle.board.specs.Runs.{Outcome, ended, runOf, runCall, Leaped}
 use Rattle.board.specs.declared.record.Board.{Board}
 use Rattle.board.specs.declared.steps.Next.the-variants.{Idle, Visit, Take}
 use Rattle.board.proofs.Forms.{good-of, pixels-of, span-of, entries-most, next-below}

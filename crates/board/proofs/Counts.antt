@@ -20,11 +20,11 @@ use Rattle.registers.specs.declared.file.Registers.{Registers}
 use Rattle.commands.specs.Visits.{commandIn, isBlit, isLine, countOf, targetOf}
 use Rattle.commands.specs.Steps.{advancedOf, visitOf, takenOf, withWord}
 use Rattle.commands.specs.declared.Engine.{Engine}
-use Rattle.board.specs.Record.{endOf}
-use Rattle.board.specs.Steps.{Machine, withEngine, withNext, emptySlot, cursorOn, nextOf, settledOf, takenBy, visitedOf, actOf, stepOf}
+use Rattle.slots.specs.Slots.{endOf, emptySlot, cursorOn}
+use Rattle.board.specs.Steps.{Machine, withEngine, withNext, nextOf, settledOf, takenBy, visitedOf, actOf, stepOf}
 use Rattle.board.specs.Runs.{Outcome, byNext, runOf}
 use Rattle.board.specs.Left.{entriesFrom, restOf, toCome, pixelsOf, lastAfter, costOf, pixelsLeft, lastOnceDone, stepsLeft, LesserOfBudgetAndLeft}
-use Rattle.board.specs.declared.record.Cursor.{Cursor}
+use Rattle.slots.specs.declared.record.Cursor.{Cursor}
 use Rattle.board.specs.declared.record.Board.{Board}
 use Rattle.board.specs.declared.steps.Next.{Next}
 use Rattle.board.specs.declared.steps.Next.the-variants.{Idle, Visit, Take, Broken}

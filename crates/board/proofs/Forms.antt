@@ -10,10 +10,11 @@ use Rattle.entries.specs.Fields.{patternControlOf}
 use Rattle.registers.specs.Registers.{registersLegal}
 use Rattle.registers.specs.Patterns.{inRange}
 use Rattle.commands.specs.Visits.{countOf}
-use Rattle.board.specs.Record.{sizesOk, endOf, slotZeros, zerosOk, orderOk, spanOk, nextOk, visitedOk, wellFormed}
-use Rattle.board.specs.declared.record.Sizes.{Sizes}
-use Rattle.board.specs.declared.record.Slot.{Slot}
-use Rattle.board.specs.declared.record.Cursor.{Cursor}
+use Rattle.slots.specs.Slots.{sizesOk, endOf, slotZeros, spanOk, nextOk}
+use Rattle.board.specs.Record.{zerosOk, orderOk, visitedOk, wellFormed}
+use Rattle.slots.specs.declared.record.Sizes.{Sizes}
+use Rattle.slots.specs.declared.record.Slot.{Slot}
+use Rattle.slots.specs.declared.record.Cursor.{Cursor}
 use Rattle.board.specs.declared.record.Board.{Board}
 
 pub record Good (b : Board) : Type 0 where

@@ -16,7 +16,7 @@ use Rattle.commands.specs.declared.Engine.{Engine}
 use Rattle.commands.proofs.Bounds.{count-same}
 use Rattle.board.specs.Record.{wellFormed}
 use Rattle.board.specs.Steps.{Machine, machine, withEngine, nextOf, settledOf, takenBy, sceneOf, visitedOf, actOf, stepOf}
-use Rattle.board.specs.Answers.{told}
+use Rattle.slots.specs.Answers.{told}
 use Rattle.board.specs.Runs.{Outcome, ended, added, byNext, runOf, Leaped, LeapOk}
 use Rattle.board.specs.Left.{RunsCompose}
 use Rattle.board.specs.declared.record.Board.{Board}

@@ -23,8 +23,9 @@ use Rattle.commands.proofs.Bounds.{count-same}
 use Rattle.commands.proofs.Visits.{keeps-lengths}
 use Rattle.commands.proofs.Triggers.{triggered-count}
 use Rattle.board.proofs.Chosen.{chosen}
-use Rattle.board.specs.Record.{sizesOk, endOf, slotZeros, spanOk, wellFormed}
-use Rattle.board.specs.Steps.{Machine, withEngine, withNext, emptySlot, cursorOn, nextOf, settledOf, takenBy, sceneOf, visitedScene, visitedOf, actOf, stepOf}
+use Rattle.slots.specs.Slots.{sizesOk, endOf, slotZeros, spanOk, emptySlot, cursorOn}
+use Rattle.board.specs.Record.{wellFormed}
+use Rattle.board.specs.Steps.{Machine, withEngine, withNext, nextOf, settledOf, takenBy, sceneOf, visitedScene, visitedOf, actOf, stepOf}
 use Rattle.board.specs.Left.{StaysWellFormed, KeepsLengths}
 use Rattle.board.specs.declared.record.Board.{Board}
 use Rattle.board.specs.declared.steps.Next.{Next}

@@ -12,10 +12,11 @@ use Rattle.registers.specs.Registers.{writtenOf}
 use Rattle.registers.specs.declared.file.Registers.{Registers}
 use Rattle.commands.specs.Visits.{commandIn, isBlit, isLine, countOf}
 use Rattle.commands.specs.declared.Engine.{Engine}
-use Rattle.board.specs.Record.{endOf, wellFormed}
-use Rattle.board.specs.Steps.{Machine, cursorOn, stepOf}
+use Rattle.slots.specs.Slots.{endOf, cursorOn}
+use Rattle.slots.specs.declared.record.Cursor.{Cursor}
+use Rattle.board.specs.Record.{wellFormed}
+use Rattle.board.specs.Steps.{Machine, stepOf}
 use Rattle.board.specs.Runs.{added, runOf}
-use Rattle.board.specs.declared.record.Cursor.{Cursor}
 use Rattle.board.specs.declared.record.Board.{Board}
 
 -- n entries of list memory from place k on

@@ -1,5 +1,4 @@
 pub mod Record
-pub mod Answers
 pub mod Steps
 pub mod Runs
 pub mod Left

@@ -1,16 +1,15 @@
 -- Runs (01, Steps), and what the host hears of one (01, What the host hears).
 use mathlib.Core.Path.{_≡_}
-use mathlib.Core.Bool.{Bool, true, cond, _&&_}
+use mathlib.Core.Bool.{true, cond}
 use mathlib.Core.List.{List}
-use Prim.Native.Nat.{ℕ, zero, suc, _+_, _*_, _≤_}
-use lib.Dec.{eqb}
+use Prim.Native.Nat.{ℕ, zero, suc, _+_, _≤_}
 use lib.ListN.{length}
+use Rattle.slots.specs.Slots.{lentOk}
 use Rattle.board.specs.Record.{wellFormed}
 use Rattle.board.specs.Steps.{Machine, machine, nextOf, stepOf}
-use Rattle.board.specs.declared.record.Sizes.{Sizes}
 use Rattle.board.specs.declared.steps.Next.{Next}
 use Rattle.board.specs.declared.steps.Next.the-variants.{Idle, Visit, Take, Broken}
-use Rattle.board.specs.Answers.{Told, told, toldOf}
+use Rattle.slots.specs.Answers.{Told, told, toldOf}
 use Rattle.board.specs.declared.answers.Answer.{Answer}
 use Rattle.board.specs.declared.runs.Leap.{Leap}
 use Rattle.board.specs.declared.runs.Leap.the-variants.{Far, Idle as LeapIdle, Broken as LeapBroken}
@@ -41,10 +40,6 @@ byNext Broken m more = ended 9 m
 unfoldable pub runOf : ℕ → List ℕ → Machine → Outcome
 runOf zero l m = ended 0 m
 runOf (suc budget) l m = byNext (nextOf l (m .board)) m (runOf budget l (stepOf l m))
-
--- "a lent memory of another size": 5 bytes an entry, and width x height bytes a buffer
-abbrev pub lentOk : Sizes → ℕ → ℕ → ℕ → Bool
-lentOk z list display virt = eqb list (5 * z .entries) && eqb display (z .width * z .height) && eqb virt (z .width * z .height)
 
 -- "Run: 1, 2, 9", the lowest number first.
 unfoldable pub runCall : ℕ → List ℕ → Machine → Outcome

@@ -1,5 +1,5 @@
 -- One step (01, Steps): "One step is one entry fetched, or one pixel visited."
-use mathlib.Core.Bool.{false, cond, _||_}
+use mathlib.Core.Bool.{cond, _||_}
 use mathlib.Core.List.{List}
 use Prim.Native.Nat.{ℕ, _+_}
 use lib.Dec.{ltb}
@@ -10,9 +10,7 @@ use Rattle.entries.specs.declared.decoding.Decoded.{Decoded}
 use Rattle.entries.specs.declared.decoding.Decoded.the-variants.{Whole, Nothing}
 use Rattle.commands.specs.Steps.{Scene, scene, visitOf, takenOf}
 use Rattle.commands.specs.declared.Engine.{Engine}
-use Rattle.board.specs.Record.{endOf}
-use Rattle.board.specs.declared.record.Slot.{Slot}
-use Rattle.board.specs.declared.record.Cursor.{Cursor}
+use Rattle.slots.specs.Slots.{endOf, emptySlot, cursorOn}
 use Rattle.board.specs.declared.record.Board.{Board}
 use Rattle.board.specs.declared.steps.Next.{Next}
 use Rattle.board.specs.declared.steps.Next.the-variants.{Idle, Visit, Take, Broken}
@@ -38,13 +36,6 @@ withNext b k =
       pending = b .pending;
       engine = b .engine;
     }
-
-abbrev pub emptySlot : Slot
-emptySlot = record { taken = false; start = 0; count = 0 }
-
--- A slot's list from its first entry on.
-abbrev pub cursorOn : Slot → Cursor
-cursorOn s = record { slot = s; next = s .start }
 
 -- What the next step is: a pixel of the command under way, else the next entry of the active list.
 abbrev pub judged : Decoded → Next

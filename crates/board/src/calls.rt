@@ -1,40 +1,16 @@
 // The calls make, post, store and window write.
 ghost use mathlib.Core.Path.{_≡_};
-ghost use Prim.Native.Nat.{_+_, _≤_};
-ghost use lib.ListN.{length};
-ghost use Rattle.board.specs.Calls.{reply, freshBoard, makeCall, postedOf, postCall, putInto, touches, written, storeCall, writeCall};
+ghost use Rattle.board.specs.Calls.{reply, freshBoard, makeCall, postedOf, postCall, written, storeCall, writeCall};
 use crate::answers::Answer;
-use crate::answers::Heard;
 use crate::record::Board;
-use crate::record::Cursor;
-use crate::record::Sizes;
-use crate::record::Slot;
 use commands::Engine;
-use entries::Illegal;
-use entries::first_illegal;
-
-// Bytes into a memory, from a place on.
-pub(crate) fn put(memory: &mut [u8], at: usize, bytes: &[u8])
-    requires { ⌜ at + length (now bytes) ≤ length (now memory) ⌝ }
-    ensures { λ _. ⌜ now (memory .exit) ≡ putInto (now (memory .entry)) at (now (bytes .entry)) ⌝ }
-{
-    let mut k: usize = 0;
-    while k < bytes.len() {
-        memory[at + k] = bytes[k];
-        k += 1;
-    }
-}
-
-// Whether n entries from `first` on have one of a slot's list among them.
-fn held(s: Slot, first: usize, n: usize) -> bool
-    requires { ⌜ first + n ≤ 4096 ⌝ }
-    ensures { λ r. ⌜ r ≡ touches s first n ⌝ }
-{
-    s.taken
-        & (0 < n)
-        & (first < s.start as usize + s.count as usize)
-        & ((s.start as usize) < first + n)
-}
+use slots::Cursor;
+use slots::Heard;
+use slots::Sizes;
+use slots::Slot;
+use slots::post_heard;
+use slots::store_into;
+use slots::write_into;
 
 impl Board {
     fn fresh(z: Sizes) -> Board
@@ -135,45 +111,13 @@ impl Board {
                 board: self,
             };
         }
-        if list.len() != 5 * (z.entries as usize) {
-            return Answer {
-                heard: Heard::WrongSize,
-                board: self,
-            };
+        let heard = post_heard(z, s, p, list, start, count);
+        if heard.number() != 0 {
+            return Answer { heard, board: self };
         }
-        if count == 0 {
-            return Answer {
-                heard: Heard::NoEntries,
-                board: self,
-            };
-        }
-        if (z.entries as usize) < start {
-            return Answer {
-                heard: Heard::PastTheEnd,
-                board: self,
-            };
-        }
-        if z.entries as usize - start < count {
-            return Answer {
-                heard: Heard::PastTheEnd,
-                board: self,
-            };
-        }
-        if s.taken & p.taken {
-            return Answer {
-                heard: Heard::SlotsTaken,
-                board: self,
-            };
-        }
-        match first_illegal(list, start, count) {
-            Illegal::At(place) => Answer {
-                heard: Heard::IllegalEntry(place),
-                board: self,
-            },
-            Illegal::Nowhere => Answer {
-                heard: Heard::Done(0),
-                board: self.posted(start as u32, count as u32),
-            },
+        Answer {
+            heard,
+            board: self.posted(start as u32, count as u32),
         }
     }
 
@@ -185,40 +129,14 @@ impl Board {
         let c = self.active;
         let s = c.slot;
         let p = self.pending;
-        let n = bytes.len() / 5;
         if !self.well_formed() {
             return Answer {
                 heard: Heard::Malformed,
                 board: self,
             };
         }
-        if !((list.len() == 5 * (z.entries as usize)) & (bytes.len() % 5 == 0)) {
-            return Answer {
-                heard: Heard::WrongSize,
-                board: self,
-            };
-        }
-        if (z.entries as usize) < first {
-            return Answer {
-                heard: Heard::PastTheEnd,
-                board: self,
-            };
-        }
-        if z.entries as usize - first < n {
-            return Answer {
-                heard: Heard::PastTheEnd,
-                board: self,
-            };
-        }
-        if held(s, first, n) | held(p, first, n) {
-            return Answer {
-                heard: Heard::EntryHeld,
-                board: self,
-            };
-        }
-        put(list, 5 * first, bytes);
         Answer {
-            heard: Heard::Done(0),
+            heard: store_into(z, s, p, list, first, bytes),
             board: self,
         }
     }
@@ -243,34 +161,8 @@ impl Board {
                 board: self,
             };
         }
-        let area = (z.width as usize) * (z.height as usize);
-        if !((number <= 1) & (buffer.len() == area)) {
-            return Answer {
-                heard: Heard::WrongSize,
-                board: self,
-            };
-        }
-        if area < offset {
-            return Answer {
-                heard: Heard::PastTheEnd,
-                board: self,
-            };
-        }
-        if area - offset < bytes.len() {
-            return Answer {
-                heard: Heard::PastTheEnd,
-                board: self,
-            };
-        }
-        if s.taken | p.taken {
-            return Answer {
-                heard: Heard::SlotTaken,
-                board: self,
-            };
-        }
-        put(buffer, offset, bytes);
         Answer {
-            heard: Heard::Done(0),
+            heard: write_into(z, s, p, number, offset, bytes, buffer),
             board: self,
         }
     }

@@ -6,8 +6,4 @@ mod runs;
 mod steps;
 
 pub use answers::Answer;
-pub use answers::Heard;
 pub use record::Board;
-pub use record::Cursor;
-pub use record::Sizes;
-pub use record::Slot;

@@ -5,12 +5,11 @@ ghost use mathlib.Core.List.{List};
 ghost use Prim.Native.Nat.{ℕ, _≤_, min};
 ghost use Rattle.board.specs.Record.{wellFormed};
 ghost use Rattle.board.specs.Steps.{machine};
-ghost use Rattle.board.specs.Runs.{outcome, runOf, lentOk, runCall, Leaped, LeapOk};
+ghost use Rattle.board.specs.Runs.{outcome, runOf, runCall, Leaped, LeapOk};
 use crate::answers::Answer;
-use crate::answers::Heard;
 use crate::record::Board;
-use crate::record::Sizes;
 use crate::steps::Next;
+use slots::Heard;
 
 // One or more steps done at once.
 pub enum Leap {
@@ -28,13 +27,6 @@ fn least(a: u64, b: u64) -> u64
     ensures { λ r. ⌜ r ≡ min a b ⌝ }
 {
     if a <= b { a } else { b }
-}
-
-fn lent_ok(z: Sizes, list: usize, display: usize, virt: usize) -> bool
-    ensures { λ r. ⌜ r ≡ lentOk z list display virt ⌝ }
-{
-    let area = (z.width as u64) * (z.height as u64);
-    (list as u64 == 5 * (z.entries as u64)) & (display as u64 == area) & (virt as u64 == area)
 }
 
 impl Board {
@@ -119,7 +111,7 @@ impl Board {
                 board: self,
             };
         }
-        if !lent_ok(z, list.len(), display.len(), virt.len()) {
+        if !z.lent_ok(list.len(), display.len(), virt.len()) {
             return Answer {
                 heard: Heard::WrongSize,
                 board: self,

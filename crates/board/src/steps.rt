@@ -3,11 +3,11 @@ ghost use mathlib.Core.Path.{_≡_};
 ghost use Prim.Native.Nat.{_<_};
 ghost use Rattle.board.specs.Steps.{machine, nextOf, settledOf, takenBy, visitedOf};
 use crate::record::Board;
-use crate::record::Cursor;
-use crate::record::Slot;
 use entries::Decoded;
 use entries::Entry;
 use entries::entry_at;
+use slots::Cursor;
+use slots::Slot;
 
 // What the next step is.
 pub enum Next {

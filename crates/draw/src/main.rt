@@ -2,9 +2,9 @@
 // the display's rows are printed.
 use board::Answer;
 use board::Board;
-use board::Heard;
 use libc::STDIN_FILENO;
 use libc::STDOUT_FILENO;
+use slots::Heard;
 
 // The call that refuses the input, or the run. `more` is what follows the first 20,480 bytes.
 fn draw(list: &[u8], read: usize, more: usize, display: &mut [u8], virt: &mut [u8]) -> Answer {

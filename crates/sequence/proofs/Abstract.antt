@@ -16,12 +16,13 @@ use Rattle.entries.specs.declared.decoding.Entry.{Entry}
 use Rattle.entries.specs.declared.decoding.Decoded.the-variants.{Whole}
 use Rattle.entries.proofs.Decodes.{decoded-whole}
 use Rattle.commands.specs.Steps.{Scene, scene, visitOf, takenOf}
-use Rattle.board.specs.Record.{endOf, wellFormed}
-use Rattle.board.specs.Steps.{Machine, machine, withEngine, withNext, cursorOn, nextOf, settledOf, takenBy, visitedScene, visitedOf, actOf, stepOf}
+use Rattle.slots.specs.Slots.{endOf, cursorOn}
+use Rattle.board.specs.Record.{wellFormed}
+use Rattle.board.specs.Steps.{Machine, machine, withEngine, withNext, nextOf, settledOf, takenBy, visitedScene, visitedOf, actOf, stepOf}
 use Rattle.board.specs.Runs.{Outcome, added, byNext, runOf}
 use Rattle.board.specs.Left.{restOf, toCome}
-use Rattle.board.specs.declared.record.Slot.{Slot}
-use Rattle.board.specs.declared.record.Cursor.{Cursor}
+use Rattle.slots.specs.declared.record.Slot.{Slot}
+use Rattle.slots.specs.declared.record.Cursor.{Cursor}
 use Rattle.board.specs.declared.record.Board.{Board}
 use Rattle.board.specs.declared.steps.Next.{Next}
 use Rattle.board.specs.declared.steps.Next.the-variants.{Idle, Visit, Take, Broken}

@@ -7,7 +7,8 @@ use native.Mathlib.Omega.{arith}
 use borrow.Author.Tests.{eq-eqb}
 use lib.ListN.{length}
 use Rattle.lemmas.proofs.Booleans.{both}
-use Rattle.board.specs.Runs.{Outcome, runOf, lentOk, runCall}
+use Rattle.slots.specs.Slots.{lentOk}
+use Rattle.board.specs.Runs.{Outcome, runOf, runCall}
 use Rattle.board.specs.Left.{stepsLeft, costOf, pixelsLeft, lastOnceDone}
 use Rattle.board.proofs.Forms.{good-of}
 use Rattle.board.proofs.Counts.{lesser}

@@ -6,9 +6,9 @@ use mathlib.Core.List.{List, [], _∷_}
 use Prim.Native.Nat.{ℕ}
 use borrow.Author.Tests.{ne-eqb}
 use lib.Dec.{eqb}
-use Rattle.board.specs.Answers.{Told}
+use Rattle.slots.specs.Answers.{Told}
 use Rattle.board.specs.Left.{restOf}
-use Rattle.board.specs.declared.record.Cursor.{Cursor}
+use Rattle.slots.specs.declared.record.Cursor.{Cursor}
 use Rattle.sequence.specs.Paper.{Call, posted, fed}
 use Rattle.sequence.specs.World.{World, Called}
 use Rattle.sequence.proofs.Abstract.{itemsOf, paperOf, Valid}

@@ -16,14 +16,15 @@ use Rattle.entries.specs.declared.legality.Illegal.the-variants.{At, Nowhere}
 use Rattle.entries.proofs.Decodes.{decoded-whole}
 use Rattle.entries.proofs.Finds.{legal-inside}
 use Rattle.commands.specs.Steps.{scene}
-use Rattle.board.specs.Answers.{told}
-use Rattle.board.specs.Record.{spanOk, nextOk}
-use Rattle.board.specs.Steps.{cursorOn}
-use Rattle.board.specs.Calls.{Reply, answered, listAt, postedOf, postBy}
+use Rattle.slots.specs.Answers.{Told, told}
+use Rattle.slots.specs.Slots.{spanOk, nextOk, listAt, cursorOn}
+use Rattle.slots.specs.Calls.{judgedBy, postHeard}
+use Rattle.slots.proofs.Grounds.{post-none, post-past, post-full, post-judged}
+use Rattle.board.specs.Calls.{Reply, answered, postedOf, postBy}
 use Rattle.board.specs.Left.{entriesFrom, restOf, toCome}
 use Rattle.board.specs.declared.record.Board.{Board}
 use Rattle.board.proofs.Forms.{Good, good-of, well-of, none-waits, fetching-ok}
-use Rattle.board.proofs.Replies.{post-none, post-past, post-full, post-judged}
+use Rattle.board.proofs.Replies.{post-by}
 use Rattle.sequence.specs.Paper.{post, posted, paper, fed}
 use Rattle.sequence.specs.World.{World, world, Called, called}
 use Rattle.sequence.proofs.Abstract.{never, itemsOf, queueOf, AllLegal, Valid}
@@ -191,7 +192,7 @@ module _ (w : World) (v : Valid w) (start count : ℕ) where
 
   post-judges : (some : count ≡ 0 → ⊥) (fits : start + count ≤ w .board .sizes .entries)
       (free : (w .board .active .slot .taken && w .board .pending .taken) ≡ false) (j : Illegal) → firstIllegal (w .list) start count ≡ j
-      → Kept w (post start count) (repliedOf w (postBy j (w .board) start count))
+      → Kept w (post start count) (repliedOf w (postBy (judgedBy j) (w .board) start count))
   post-judges some fits free (At place) h = post-refused 6 place (λ e. omega arith) (λ e. omega arith) (λ e. omega arith)
   post-judges some fits free Nowhere h = post-done (omega (arith, some)) fits free h
 
@@ -200,19 +201,23 @@ module _ (w : World) (v : Valid w) (start count : ℕ) where
   post-kept =
       let b = w .board in
       let l = w .list in
-      let K : Reply → Type 0 = λ r. Kept w (post start count) (repliedOf w r) in
-      by-cases (eqb count 0)
-      (λ t. subst K (post-none l start count b (v .well) (v .list-long) (eqb-true count 0 t)) (post-refused 3 0 (λ e. omega arith) (λ e. omega arith) (λ e. omega arith)))
+      let z = b .sizes in
+      let s = b .active .slot in
+      let q = b .pending in
+      let K : Told → Type 0 = λ t. Kept w (post start count) (repliedOf w (postBy t b start count)) in
+      subst (λ r. Kept w (post start count) (repliedOf w r)) (post-by l start count b (v .well) (postHeard z s q l start count) refl)
+      (by-cases (eqb count 0)
+      (λ t. subst K (post-none z s q l start count (v .list-long) (eqb-true count 0 t)) (post-refused 3 0 (λ e. omega arith) (λ e. omega arith) (λ e. omega arith)))
       (λ t.
       let some = eqb-false count 0 t in
-      by-cases (leb (start + count) (b .sizes .entries))
+      by-cases (leb (start + count) (z .entries))
       (λ f.
-      let fits = leb-true (start + count) (b .sizes .entries) f in
-      by-cases (b .active .slot .taken && b .pending .taken)
-      (λ u. subst K (post-full l start count b (v .well) (v .list-long) some fits u) (post-refused 5 0 (λ e. omega arith) (λ e. omega arith) (λ e. omega arith)))
+      let fits = leb-true (start + count) (z .entries) f in
+      by-cases (s .taken && q .taken)
+      (λ u. subst K (post-full z s q l start count (v .list-long) some fits u) (post-refused 5 0 (λ e. omega arith) (λ e. omega arith) (λ e. omega arith)))
       (λ u.
       let found = firstIllegal l start count in
-      subst K (post-judged l start count b (v .well) (v .list-long) some fits u found found refl refl) (post-judges some fits u found refl)))
+      subst K (post-judged z s q l start count (v .list-long) some fits u found found refl refl) (post-judges some fits u found refl)))
       (λ f.
-      subst K (post-past l start count b (v .well) (v .list-long) some (leb-false (start + count) (b .sizes .entries) f))
-      (post-refused 4 0 (λ e. omega arith) (λ e. omega arith) (λ e. omega arith))))
+      subst K (post-past z s q l start count (v .list-long) some (leb-false (start + count) (z .entries) f))
+      (post-refused 4 0 (λ e. omega arith) (λ e. omega arith) (λ e. omega arith)))))

@@ -10,10 +10,10 @@ use Rattle.entries.specs.Legality.{dataLegal, cmdLegal, pctrlLegal}
 use Rattle.registers.specs.Registers.{registersLegal}
 use Rattle.registers.specs.Patterns.{inRange}
 use Rattle.commands.specs.Steps.{scene, freshEngine}
-use Rattle.board.specs.Record.{sizesOk}
+use Rattle.slots.specs.Slots.{sizesOk}
 use Rattle.board.specs.Calls.{freshBoard, sizes}
 use Rattle.board.specs.Left.{entriesFrom}
-use Rattle.board.specs.declared.record.Sizes.{Sizes}
+use Rattle.slots.specs.declared.record.Sizes.{Sizes}
 use Rattle.board.proofs.Forms.{Good, well-of}
 use Rattle.sequence.specs.Paper.{Call, Paper, paper, fed}
 use Rattle.sequence.specs.World.{World, world, Called, called}

@@ -8,7 +8,7 @@ use native.Mathlib.Omega.{arith}
 use lib.ListN.{length, getD, take, drop, length-append, length-drop, List·getD-append}
 use lib.Seq.{getD-append-add, getD-take, getD-drop, length-take-le}
 use Rattle.entries.specs.Layout.{entryOf}
-use Rattle.board.specs.Calls.{putInto}
+use Rattle.slots.specs.Calls.{putInto}
 use Rattle.board.specs.Left.{entriesFrom}
 
 -- before and after the bytes that were put

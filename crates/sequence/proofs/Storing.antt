@@ -12,17 +12,18 @@ use lib.ListN.{length}
 use Rattle.lemmas.proofs.Booleans.{by-cases, both, and-right, or-none-left, or-none-right}
 use Rattle.entries.specs.declared.decoding.Entry.{Entry}
 use Rattle.commands.specs.Steps.{scene}
-use Rattle.board.specs.Answers.{told}
-use Rattle.board.specs.Record.{endOf}
-use Rattle.board.specs.Steps.{cursorOn}
-use Rattle.board.specs.Calls.{putInto, touches, Written, kept}
+use Rattle.slots.specs.Answers.{told}
+use Rattle.slots.specs.Slots.{endOf, cursorOn}
+use Rattle.slots.specs.Calls.{putInto, touches, Lent, storeHeard}
+use Rattle.slots.proofs.Grounds.{store-wrong-size, store-past, store-held, store-done}
+use Rattle.board.specs.Calls.{Written, kept, keptBy}
 use Rattle.board.specs.Left.{restOf}
-use Rattle.board.specs.declared.record.Slot.{Slot}
-use Rattle.board.specs.declared.record.Cursor.{Cursor}
+use Rattle.slots.specs.declared.record.Slot.{Slot}
+use Rattle.slots.specs.declared.record.Cursor.{Cursor}
 use Rattle.board.specs.declared.record.Board.{Board}
 use Rattle.board.proofs.Forms.{Good, good-of, zero-of, next-below, next-within}
 use Rattle.board.proofs.Counts.{rest-end}
-use Rattle.board.proofs.Replies.{store-wrong-size, store-past, store-held, store-done}
+use Rattle.board.proofs.Replies.{store-by}
 use Rattle.sequence.specs.Paper.{store, Item, posted, paper, fed}
 use Rattle.sequence.specs.World.{World, world, Called, called}
 use Rattle.sequence.proofs.Stays.{put-length, entries-stay}
@@ -118,18 +119,22 @@ module _ (w : World) (v : Valid w) (first : ℕ) (bytes : List ℕ) where
   store-kept =
       let b = w .board in
       let l = w .list in
-      let K : Written → Type 0 = λ r. Kept w (store first bytes) (storedOf w r) in
-      let long = eqb (length l) (5 * b .sizes .entries) in
-      by-cases (long && eqb (length bytes % 5) 0)
+      let z = b .sizes in
+      let s = b .active .slot in
+      let q = b .pending in
+      let K : Lent → Type 0 = λ m. Kept w (store first bytes) (storedOf w (keptBy b m)) in
+      let long = eqb (length l) (5 * z .entries) in
+      subst (λ r. Kept w (store first bytes) (storedOf w r)) (store-by l first bytes b (v .well) (storeHeard z s q l first bytes) refl)
+      (by-cases (long && eqb (length bytes % 5) 0)
       (λ t.
       let whole = eqb-true (length bytes % 5) 0 (and-right long (eqb (length bytes % 5) 0) t) in
-      by-cases (leb (first + length bytes / 5) (b .sizes .entries))
+      by-cases (leb (first + length bytes / 5) (z .entries))
       (λ f.
-      let fits = leb-true (first + length bytes / 5) (b .sizes .entries) f in
-      by-cases (touches (b .active .slot) first (length bytes / 5) || touches (b .pending) first (length bytes / 5))
-      (λ u. subst K (store-held l first bytes b (v .well) t fits u) (store-refused 8 (λ e. omega arith) (λ e. omega arith) (λ e. omega arith)))
-      (λ u. subst K (store-done l first bytes b (v .well) t fits u (putInto l (5 * first) bytes) refl) (store-puts whole fits u)))
+      let fits = leb-true (first + length bytes / 5) (z .entries) f in
+      by-cases (touches s first (length bytes / 5) || touches q first (length bytes / 5))
+      (λ u. subst K (store-held z s q l first bytes t fits u) (store-refused 8 (λ e. omega arith) (λ e. omega arith) (λ e. omega arith)))
+      (λ u. subst K (store-done z s q l first bytes t fits u (putInto l (5 * first) bytes) refl) (store-puts whole fits u)))
       (λ f.
-      subst K (store-past l first bytes b (v .well) t (leb-false (first + length bytes / 5) (b .sizes .entries) f))
+      subst K (store-past z s q l first bytes t (leb-false (first + length bytes / 5) (z .entries) f))
       (store-refused 4 (λ e. omega arith) (λ e. omega arith) (λ e. omega arith))))
-      (λ t. subst K (store-wrong-size l first bytes b (v .well) t) (store-refused 2 (λ e. omega arith) (λ e. omega arith) (λ e. omega arith)))
+      (λ t. subst K (store-wrong-size z s q l first bytes t) (store-refused 2 (λ e. omega arith) (λ e. omega arith) (λ e. omega arith))))

@@ -10,10 +10,12 @@ use lib.Dec.{eqb, leb}
 use lib.ListN.{length}
 use Rattle.lemmas.proofs.Booleans.{by-cases, or-none-left, or-none-right}
 use Rattle.commands.specs.Steps.{Scene, scene}
-use Rattle.board.specs.Answers.{told}
-use Rattle.board.specs.Steps.{cursorOn}
-use Rattle.board.specs.Calls.{putInto, Written, kept, writeCall}
-use Rattle.board.proofs.Replies.{write-wrong-size, write-past, write-busy, write-done}
+use Rattle.slots.specs.Answers.{told}
+use Rattle.slots.specs.Slots.{cursorOn}
+use Rattle.slots.specs.Calls.{putInto, Lent, writeHeard}
+use Rattle.slots.proofs.Grounds.{write-wrong-size, write-past, write-busy, write-done}
+use Rattle.board.specs.Calls.{Written, kept, keptBy, writeCall}
+use Rattle.board.proofs.Replies.{write-by}
 use Rattle.sequence.specs.Paper.{write, window, paper, writtenTo, flushed, fed}
 use Rattle.sequence.specs.World.{World, world, Called, called}
 use Rattle.sequence.proofs.Stays.{put-length}
@@ -45,29 +47,34 @@ module _ (w : World) (v : Valid w) (number offset : ℕ) (bytes : List ℕ) wher
       ∙ ap (λ s. paper s (w .list) []) e ∙ ap (paper s (w .list)) (sym empty)
 
   -- by the tests that the call passes, whichever buffer is named
-  write-by : (buffer : List ℕ) → (lent : Written → Called)
+  write-checked : (buffer : List ℕ) → (lent : Written → Called)
       → ((answer : ℕ) → (answer ≡ 0 → ⊥) → (answer ≡ 1 → ⊥) → (answer ≡ 9 → ⊥)
       → Kept w (write number offset bytes) (lent (kept answer (w .board) buffer)))
       → (offset + length bytes ≤ w .board .sizes .width * w .board .sizes .height
       → (w .board .active .slot .taken || w .board .pending .taken) ≡ false
       → Kept w (write number offset bytes) (lent (kept 0 (w .board) (putInto buffer offset bytes))))
       → Kept w (write number offset bytes) (lent (writeCall number offset bytes buffer (w .board)))
-  write-by buffer lent refused done =
+  write-checked buffer lent refused done =
       let b = w .board in
-      let pixels = b .sizes .width * b .sizes .height in
-      let K : Written → Type 0 = λ r. Kept w (write number offset bytes) (lent r) in
-      by-cases (leb number 1 && eqb (length buffer) pixels)
+      let z = b .sizes in
+      let s = b .active .slot in
+      let q = b .pending in
+      let pixels = z .width * z .height in
+      let K : Lent → Type 0 = λ m. Kept w (write number offset bytes) (lent (keptBy b m)) in
+      subst (λ r. Kept w (write number offset bytes) (lent r))
+      (write-by number offset bytes buffer b (v .well) (writeHeard z s q number offset bytes buffer) refl)
+      (by-cases (leb number 1 && eqb (length buffer) pixels)
       (λ t.
       by-cases (leb (offset + length bytes) pixels)
       (λ f.
       let fits = leb-true (offset + length bytes) pixels f in
-      by-cases (b .active .slot .taken || b .pending .taken)
-      (λ u. subst K (write-busy number offset bytes buffer b (v .well) t fits u) (refused 7 (λ e. omega arith) (λ e. omega arith) (λ e. omega arith)))
-      (λ u. subst K (write-done number offset bytes buffer b (v .well) t fits u (putInto buffer offset bytes) refl) (done fits u)))
+      by-cases (s .taken || q .taken)
+      (λ u. subst K (write-busy z s q number offset bytes buffer t fits u) (refused 7 (λ e. omega arith) (λ e. omega arith) (λ e. omega arith)))
+      (λ u. subst K (write-done z s q number offset bytes buffer t fits u (putInto buffer offset bytes) refl) (done fits u)))
       (λ f.
-      subst K (write-past number offset bytes buffer b (v .well) t (leb-false (offset + length bytes) pixels f))
+      subst K (write-past z s q number offset bytes buffer t (leb-false (offset + length bytes) pixels f))
       (refused 4 (λ e. omega arith) (λ e. omega arith) (λ e. omega arith))))
-      (λ t. subst K (write-wrong-size number offset bytes buffer b (v .well) t) (refused 2 (λ e. omega arith) (λ e. omega arith) (λ e. omega arith)))
+      (λ t. subst K (write-wrong-size z s q number offset bytes buffer t) (refused 2 (λ e. omega arith) (λ e. omega arith) (λ e. omega arith))))
 
   abbrev toDisplay : Written → Called
   toDisplay r = record { heard = r .heard; after = world (r .board) (w .list) (r .memory) (w .virt) }
@@ -123,5 +130,5 @@ module _ (w : World) (v : Valid w) (number offset : ℕ) (bytes : List ℕ) wher
       let onDisplay = toDisplay (writeCall number offset bytes (w .display) b) in
       let onVirtual = toVirtual (writeCall number offset bytes (w .virt) b) in
       by-cases (eqb number 0)
-      (λ t. subst (λ t. Kept w c (cond t onDisplay onVirtual)) (sym t) (write-by (w .display) toDisplay write-refused (display-done t)))
-      (λ t. subst (λ t. Kept w c (cond t onDisplay onVirtual)) (sym t) (write-by (w .virt) toVirtual write-refused (virtual-done t)))
+      (λ t. subst (λ t. Kept w c (cond t onDisplay onVirtual)) (sym t) (write-checked (w .display) toDisplay write-refused (display-done t)))
+      (λ t. subst (λ t. Kept w c (cond t onDisplay onVirtual)) (sym t) (write-checked (w .virt) toVirtual write-refused (virtual-done t)))

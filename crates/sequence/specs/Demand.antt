@@ -6,9 +6,9 @@ use Prim.Native.Nat.{ℕ, _*_, min}
 use lib.Dec.{eqb}
 use lib.ListN.{length}
 use Rattle.commands.specs.Steps.{scene, freshEngine}
-use Rattle.board.specs.Record.{sizesOk}
+use Rattle.slots.specs.Slots.{sizesOk}
 use Rattle.board.specs.Calls.{freshBoard, sizes}
-use Rattle.board.specs.declared.record.Slot.{Slot}
+use Rattle.slots.specs.declared.record.Slot.{Slot}
 use Rattle.board.specs.declared.record.Board.{Board}
 use Rattle.sequence.specs.Paper.{Call, post, store, write, run, Item, posted, window, Paper, paper, fed, stepsToEmpty}
 use Rattle.sequence.specs.World.{World, world, Called, called}

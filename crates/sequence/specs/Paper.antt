@@ -5,9 +5,10 @@ use Prim.Native.Nat.{ℕ, zero, suc, _+_, _*_}
 use lib.Dec.{eqb}
 use Rattle.entries.specs.declared.decoding.Entry.{Entry}
 use Rattle.commands.specs.Steps.{Scene, scene, visitOf, takenOf}
-use Rattle.board.specs.Calls.{listAt, putInto}
+use Rattle.slots.specs.Slots.{listAt}
+use Rattle.slots.specs.Calls.{putInto}
 use Rattle.board.specs.Left.{entriesFrom, costOf, pixelsLeft, lastOnceDone}
-use Rattle.board.specs.declared.record.Slot.{Slot}
+use Rattle.slots.specs.declared.record.Slot.{Slot}
 
 -- A call's "arguments other than the board record and the lent memories".
 pub data Call : Type 0 where

@@ -3,7 +3,7 @@ use mathlib.Core.Bool.{cond}
 use mathlib.Core.List.{List}
 use Prim.Native.Nat.{ℕ}
 use lib.Dec.{eqb}
-use Rattle.board.specs.Answers.{Told}
+use Rattle.slots.specs.Answers.{Told}
 use Rattle.board.specs.Steps.{machine}
 use Rattle.board.specs.Runs.{runCall}
 use Rattle.board.specs.Calls.{postCall, storeCall, writeCall}

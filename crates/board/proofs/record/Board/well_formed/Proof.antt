@@ -3,8 +3,8 @@ use Rattle.board.specs.Record.{wellFormed}
 use Rattle.board.proofs.record.Board.well_formed.Statement.{statement}
 use Rattle.board.proofs.record.Board.well_formed.Tie as tie
 
-sizes-ok-requires : tie.Need-sizes-ok-requires
-sizes-ok-requires c κs = search needs
+in-limits-requires : tie.Need-in-limits-requires
+in-limits-requires c κs = search needs
 
 legal-requires : tie.Need-legal-requires
 legal-requires c κs = search needs
@@ -40,7 +40,7 @@ returns c =
     let zeros = spans .before .before .before in
     let range = zeros .before in
     rw (
-      range .before .before .before .sizes-ok .ensures,
+      range .before .before .before .in-limits .ensures,
       range .before .before .legal .ensures,
       range .in-range .ensures,
       range .before .pattern-control-of .ensures,
@@ -56,7 +56,7 @@ pub well-formed-spec : {M : Type 1} → statement M
 well-formed-spec =
     tie.close
     (tie.spec
-    sizes-ok-requires
+    in-limits-requires
     legal-requires
     pattern-control-of-requires
     in-range-requires

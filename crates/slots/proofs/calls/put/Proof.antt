@@ -3,9 +3,9 @@ use Prim.Native.Nat.{_+_, _-_, _≤_}
 use native.Mathlib.Omega.{arith}
 use lib.ListN.{length, length-set}
 use lib.Seq.{paste}
-use Rattle.board.proofs.Replies.{put-start, put-more, put-all}
-use Rattle.board.proofs.calls.put.Statement.{statement}
-use Rattle.board.proofs.calls.put.Tie as tie
+use Rattle.slots.proofs.Grounds.{put-start, put-more, put-all}
+use Rattle.slots.proofs.calls.put.Statement.{statement}
+use Rattle.slots.proofs.calls.put.Tie as tie
 
 abbrev Inv-loop : tie.InvT-loop
 Inv-loop memory₀ at bytes k₀ memory k =

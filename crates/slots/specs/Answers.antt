@@ -1,7 +1,7 @@
 -- What the host hears (01, What the host hears): number, place and steps for each answer.
 use Prim.Native.Nat.{ℕ}
-use Rattle.board.specs.declared.answers.Heard.{Heard}
-use Rattle.board.specs.declared.answers.Heard.the-variants.{Done, Malformed, WrongSize, NoEntries, PastTheEnd, SlotsTaken, IllegalEntry, SlotTaken, EntryHeld, IllegalFetch}
+use Rattle.slots.specs.declared.answers.Heard.{Heard}
+use Rattle.slots.specs.declared.answers.Heard.the-variants.{Done, Malformed, WrongSize, NoEntries, PastTheEnd, SlotsTaken, IllegalEntry, SlotTaken, EntryHeld, IllegalFetch}
 
 -- The paper's number, place and steps.
 pub record Told : Type 0 where

@@ -1,0 +1,119 @@
+-- What post, store and window write hear, by the tests that a call passes.
+-- Assumes nothing.
+use mathlib.Core.Path.{_≡_, ap, sym, _∙_}
+use mathlib.Core.Bool.{Bool, true, false, cond, _&&_, _||_}
+use mathlib.Core.List.{List, _++_}
+use Prim.Native.Nat.{ℕ, _+_, _*_, _/_, _%_, _≤_, _<_}
+use native.Mathlib.Numerals.{add-one}
+use native.Mathlib.Omega.{arith}
+use borrow.Author.Tests.{eq-eqb, ne-eqb, le-leb, lt-leb, leb-true}
+use lib.Dec.{eqb, leb}
+use lib.ListN.{length, getD, set, take, drop}
+use lib.Seq.{paste, paste-zero, paste-suc, take-length}
+use Rattle.lemmas.proofs.Booleans.{by-cases}
+use Rattle.entries.specs.Legality.{firstIllegal}
+use Rattle.entries.specs.declared.legality.Illegal.{Illegal}
+use Rattle.slots.specs.Answers.{told}
+use Rattle.slots.specs.Calls.{judgedBy, postHeard, putInto, touches, leaves, storeHeard, writeHeard}
+use Rattle.slots.specs.declared.record.Sizes.{Sizes}
+use Rattle.slots.specs.declared.record.Slot.{Slot}
+
+module _ (z : Sizes) (a p : Slot) where
+  -- ---- post
+  module _ (l : List ℕ) (start count : ℕ) where
+    pub post-wrong-size : (length l ≡ 5 * z .entries → ⊥) → told 2 0 0 ≡ postHeard z a p l start count
+    unfolding postHeard
+    post-wrong-size e = rw (ne-eqb (length l) (5 * z .entries) e)
+
+    module _ (long : length l ≡ 5 * z .entries) where
+      pub post-none : count ≡ 0 → told 3 0 0 ≡ postHeard z a p l start count
+      unfolding postHeard
+      post-none e = rw (eq-eqb (length l) (5 * z .entries) long, eq-eqb count 0 e)
+
+      module _ (some : count ≡ 0 → ⊥) where
+        pub post-past : z .entries < start + count → told 4 0 0 ≡ postHeard z a p l start count
+        unfolding postHeard
+        post-past h = rw (eq-eqb (length l) (5 * z .entries) long, ne-eqb count 0 some, lt-leb (start + count) (z .entries) h)
+
+        module _ (fits : start + count ≤ z .entries) where
+          pub post-full : (a .taken && p .taken) ≡ true → told 5 0 0 ≡ postHeard z a p l start count
+          unfolding postHeard
+          post-full h =
+              rw (eq-eqb (length l) (5 * z .entries) long, ne-eqb count 0 some, le-leb (start + count) (z .entries) fits, h)
+
+          pub post-judged : (a .taken && p .taken) ≡ false → (i j : Illegal) → i ≡ firstIllegal l start count → i ≡ j
+              → judgedBy j ≡ postHeard z a p l start count
+          unfolding postHeard
+          post-judged h i j s t =
+              rw (eq-eqb (length l) (5 * z .entries) long, ne-eqb count 0 some, le-leb (start + count) (z .entries) fits, h)
+              (ap judgedBy (sym t ∙ s))
+
+    -- a list that is not refused fits
+    pub post-fits : postHeard z a p l start count .number ≡ 0 → start + count ≤ z .entries
+    unfolding postHeard
+    post-fits h =
+        by-cases (leb (start + count) (z .entries)) (λ t. leb-true (start + count) (z .entries) t)
+        (λ t. absurd (refused (eqb (length l) (5 * z .entries)) (eqb count 0) (rw t at h)))
+      where
+        refused : (x y : Bool) → cond x (cond y (told 3 0 0) (told 4 0 0)) (told 2 0 0) .number ≡ 0 → ⊥
+        refused true true h = omega arith
+        refused true false h = omega arith
+        refused false y h = omega arith
+
+  -- ---- store
+  module _ (l : List ℕ) (first : ℕ) (bytes : List ℕ) where
+    pub store-wrong-size : (eqb (length l) (5 * z .entries) && eqb (length bytes % 5) 0) ≡ false
+        → leaves 2 l ≡ storeHeard z a p l first bytes
+    unfolding storeHeard
+    store-wrong-size e = rw e
+
+    module _ (long : (eqb (length l) (5 * z .entries) && eqb (length bytes % 5) 0) ≡ true) where
+      pub store-past : z .entries < first + length bytes / 5 → leaves 4 l ≡ storeHeard z a p l first bytes
+      unfolding storeHeard
+      store-past h = rw (long, lt-leb (first + length bytes / 5) (z .entries) h)
+
+      module _ (fits : first + length bytes / 5 ≤ z .entries) where
+        pub store-held : (touches a first (length bytes / 5) || touches p first (length bytes / 5)) ≡ true
+            → leaves 8 l ≡ storeHeard z a p l first bytes
+        unfolding storeHeard
+        store-held h = rw (long, le-leb (first + length bytes / 5) (z .entries) fits, h)
+
+        pub store-done : (touches a first (length bytes / 5) || touches p first (length bytes / 5)) ≡ false → (m : List ℕ)
+            → m ≡ putInto l (5 * first) bytes → leaves 0 m ≡ storeHeard z a p l first bytes
+        unfolding storeHeard
+        store-done h m e = rw (long, le-leb (first + length bytes / 5) (z .entries) fits, h) (ap (leaves 0) e)
+
+  -- ---- window write
+  module _ (number offset : ℕ) (bytes buffer : List ℕ) where
+    pub write-wrong-size : (leb number 1 && eqb (length buffer) (z .width * z .height)) ≡ false
+        → leaves 2 buffer ≡ writeHeard z a p number offset bytes buffer
+    unfolding writeHeard
+    write-wrong-size e = rw e
+
+    module _ (named : (leb number 1 && eqb (length buffer) (z .width * z .height)) ≡ true) where
+      pub write-past : z .width * z .height < offset + length bytes → leaves 4 buffer ≡ writeHeard z a p number offset bytes buffer
+      unfolding writeHeard
+      write-past h = rw (named, lt-leb (offset + length bytes) (z .width * z .height) h)
+
+      module _ (fits : offset + length bytes ≤ z .width * z .height) where
+        pub write-busy : (a .taken || p .taken) ≡ true → leaves 7 buffer ≡ writeHeard z a p number offset bytes buffer
+        unfolding writeHeard
+        write-busy h = rw (named, le-leb (offset + length bytes) (z .width * z .height) fits, h)
+
+        pub write-done : (a .taken || p .taken) ≡ false → (m : List ℕ) → m ≡ putInto buffer offset bytes
+            → leaves 0 m ≡ writeHeard z a p number offset bytes buffer
+        unfolding writeHeard
+        write-done h m e = rw (named, le-leb (offset + length bytes) (z .width * z .height) fits, h) (ap (leaves 0) e)
+
+-- ---- bytes into a memory
+pub put-start : (l : List ℕ) (at : ℕ) (bytes : List ℕ) → l ≡ paste l at bytes 0
+put-start l at bytes = paste-zero l at bytes
+
+pub put-more : (l : List ℕ) (at : ℕ) (bytes : List ℕ) (k : ℕ) (m : List ℕ) → at + k < length l → k < length bytes → m ≡ paste l at bytes k
+    → set m (at + k) (getD bytes k 0) ≡ paste l at bytes (k + 1)
+put-more l at bytes k m h o e =
+    ap (λ m. set m (at + k) (getD bytes k 0)) e ∙ paste-suc l at bytes k 0 h o ∙ ap (λ k. paste l at bytes k) (sym (add-one k))
+
+pub put-all : (l : List ℕ) (at : ℕ) (bytes : List ℕ) → paste l at bytes (length bytes) ≡ putInto l at bytes
+unfolding putInto
+put-all l at bytes = ap (λ b. take at l ++ b ++ drop (at + length bytes) l) (take-length bytes)
