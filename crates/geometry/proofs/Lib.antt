@@ -1,6 +1,7 @@
 pub mod Integers
 pub mod Whole
 pub mod Clips
+pub mod Windows
 pub mod Lines
 pub mod LineRule
 pub mod Blits

@@ -1,12 +1,13 @@
 -- The clip rectangle and the buffer's bounds (01, Pixels, and What the engine has).
 use mathlib.Core.Path.{_≡_}
-use mathlib.Core.Bool.{Bool, false, cond, _&&_}
+use mathlib.Core.Bool.{Bool, false, not, cond, _&&_}
 use mathlib.Core.Logic.{_⊎_}
-use Prim.Native.Nat.{ℕ, _+_, _-_, _*_, _<_}
+use Prim.Native.Nat.{ℕ, _+_, _-_, _*_, _<_, min, max}
 use lib.Dec.{leb, ltb}
 use Rattle.geometry.specs.Coordinates.{origin, pointOf}
 use Rattle.geometry.specs.declared.Point.{Point}
 use Rattle.geometry.specs.declared.Rect.{Rect}
+use Rattle.geometry.specs.declared.Window.{Window}
 use Rattle.geometry.specs.declared.Place.{Place}
 use Rattle.geometry.specs.declared.Place.the-variants.{At, Outside}
 
@@ -31,6 +32,28 @@ inBuffer width height p = leb origin (p .x) && leb origin (p .y) && ltb (p .x - 
 -- "pixel (x, y) at y x width + x"; outside the buffer a point has no place
 unfoldable pub placeOf : ℕ → ℕ → Point → Place
 placeOf width height p = cond (inBuffer width height p) (At ((p .y - origin) * width + (p .x - origin))) Outside
+
+-- What clip and buffer let through, as one window: left <= x < right and top <= y < bottom.
+unfoldable pub windowOf : ℕ → ℕ → Bool → ℕ → ℕ → Window
+windowOf width height clip topLeft bottomRight =
+    cond clip
+    (record {
+      left = max origin (rectOf topLeft bottomRight .left);
+      right = min (origin + width) (rectOf topLeft bottomRight .right + 1);
+      top = max origin (rectOf topLeft bottomRight .top);
+      bottom = min (origin + height) (rectOf topLeft bottomRight .bottom + 1);
+    })
+    (record { left = origin; right = origin + width; top = origin; bottom = origin + height })
+
+abbrev pub inWindow : Window → Point → Bool
+inWindow w p = leb (w .left) (p .x) && ltb (p .x) (w .right) && leb (w .top) (p .y) && ltb (p .y) (w .bottom)
+
+-- That a window lets through what clip and buffer do; proved in proofs/Windows.antt.
+abbrev pub WindowLetsThrough : Type 0
+WindowLetsThrough =
+    (width height : ℕ) (clip : Bool) (topLeft bottomRight : ℕ) (p : Point)
+    → inWindow (windowOf width height clip topLeft bottomRight) p
+    ≡ (not (clip && not (inRect (rectOf topLeft bottomRight) p)) && inBuffer width height p)
 
 -- "A reversed clip draws nothing", and a place lies in its buffer; proved in proofs/Clips.antt.
 abbrev pub ReversedHoldsNothing : Type 0

@@ -1,9 +1,9 @@
 // Where pixels lie: coordinates, the clip rectangle, the place of a pixel in its buffer, and the pixels that a line and
 // a blit visit (document 01, Entry layout and Pixels).
 ghost use mathlib.Core.Path.{_≡_};
-ghost use Prim.Native.Nat.{_<_, _≤_, max};
+ghost use Prim.Native.Nat.{_<_, _≤_, min, max};
 ghost use Rattle.geometry.specs.Coordinates.{coordinateOf, pointOf};
-ghost use Rattle.geometry.specs.Clip.{rectOf, inRect, placeOf};
+ghost use Rattle.geometry.specs.Clip.{rectOf, inRect, windowOf, placeOf};
 ghost use Rattle.geometry.specs.Line.{distance, stepsOf, xMajor, lineCount, nearestOf, lineVisit};
 ghost use Rattle.geometry.specs.Blit.{blitCount, away, blitVisit};
 
@@ -62,6 +62,37 @@ impl Rect {
     }
 }
 
+// The part of a buffer that clip and buffer let through: left <= x < right and top <= y < bottom.
+pub struct Window {
+    pub left: usize,
+    pub right: usize,
+    pub top: usize,
+    pub bottom: usize,
+}
+
+// The window of a buffer of width x height pixels, and of the clip rectangle where `clip` is set.
+pub fn window_of(width: u32, height: u32, clip: bool, top_left: u32, bottom_right: u32) -> Window
+    ensures { λ r. ⌜ r ≡ windowOf width height clip «top_left» «bottom_right» ⌝ }
+{
+    let right = ORIGIN + width as usize;
+    let bottom = ORIGIN + height as usize;
+    if clip {
+        let c = rect_of(top_left, bottom_right);
+        return Window {
+            left: larger(ORIGIN, c.left),
+            right: smaller(right, c.right + 1),
+            top: larger(ORIGIN, c.top),
+            bottom: smaller(bottom, c.bottom + 1),
+        };
+    }
+    Window {
+        left: ORIGIN,
+        right,
+        top: ORIGIN,
+        bottom,
+    }
+}
+
 // A pixel's place in its buffer.
 pub enum Place {
     At(usize),
@@ -106,6 +137,12 @@ fn larger(a: usize, b: usize) -> usize
     ensures { λ r. ⌜ r ≡ max a b ⌝ }
 {
     if a <= b { b } else { a }
+}
+
+fn smaller(a: usize, b: usize) -> usize
+    ensures { λ r. ⌜ r ≡ min a b ⌝ }
+{
+    if a <= b { a } else { b }
 }
 
 // n, the number of steps from one end of a line to the other.

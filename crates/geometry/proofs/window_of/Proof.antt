@@ -1,0 +1,74 @@
+use borrow.Author.Needs.{needs}
+use native.Mathlib.Omega.{arith}
+use Rattle.geometry.specs.Clip.{rectOf, windowOf}
+use Rattle.geometry.proofs.Windows.{right-most, bottom-most}
+use Rattle.geometry.proofs.window_of.Statement.{statement}
+use Rattle.geometry.proofs.window_of.Tie as tie
+
+add-right : tie.Need-add-right
+add-right c = search needs
+
+add-bottom : tie.Need-add-bottom
+add-bottom c = search needs
+
+rect-of-requires : tie.Need-rect-of-requires
+rect-of-requires c κs = search needs
+
+larger-requires : tie.Need-larger-requires
+larger-requires c κs = search needs
+
+add-smaller : tie.Need-add-smaller
+add-smaller c =
+    let cut = c .before .before in
+    let s = cut .before .before .args in
+    rw (cut .rect-of .ensures) (omega (arith, right-most (s .top-left) (s .bottom-right)))
+
+smaller-requires : tie.Need-smaller-requires
+smaller-requires c κs = search needs
+
+larger-requires-2 : tie.Need-larger-requires-2
+larger-requires-2 c κs = search needs
+
+add-smaller-2 : tie.Need-add-smaller-2
+add-smaller-2 c =
+    let cut = c .before .before .before .before .before in
+    let s = cut .before .before .args in
+    rw (cut .rect-of .ensures) (omega (arith, bottom-most (s .top-left) (s .bottom-right)))
+
+smaller-requires-2 : tie.Need-smaller-requires-2
+smaller-requires-2 c κs = search needs
+
+returns : tie.Need-returns
+unfolding windowOf
+returns c =
+    let low = c .before .before in
+    let side = low .before .before .before in
+    let cut = side .before in
+    rw (
+      c .smaller2 .ensures,
+      low .larger2 .ensures,
+      low .before .smaller .ensures,
+      side .larger .ensures,
+      cut .rect-of .ensures,
+      cut .before .if1 .taken,
+    )
+
+returns-2 : tie.Need-returns-2
+unfolding windowOf
+returns-2 c = rw (c .if1 .left)
+
+pub window-of-spec : {M : Type 1} → statement M
+window-of-spec =
+    tie.close
+    (tie.spec
+    add-right
+    add-bottom
+    rect-of-requires
+    larger-requires
+    add-smaller
+    smaller-requires
+    larger-requires-2
+    add-smaller-2
+    smaller-requires-2
+    returns
+    returns-2)
