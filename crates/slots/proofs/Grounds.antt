@@ -1,6 +1,6 @@
 -- What post, store and window write hear, by the tests that a call passes.
 -- Assumes nothing.
-use mathlib.Core.Path.{_≡_, ap, sym, _∙_}
+use mathlib.Core.Path.{_≡_, refl, ap, sym, _∙_}
 use mathlib.Core.Bool.{Bool, true, false, cond, _&&_, _||_}
 use mathlib.Core.List.{List, _++_}
 use Prim.Native.Nat.{ℕ, _+_, _*_, _/_, _%_, _≤_, _<_}
@@ -104,6 +104,31 @@ module _ (z : Sizes) (a p : Slot) where
             → leaves 0 m ≡ writeHeard z a p number offset bytes buffer
         unfolding writeHeard
         write-done h m e = rw (named, le-leb (offset + length bytes) (z .width * z .height) fits, h) (ap (leaves 0) e)
+
+-- ---- a refusal leaves the memory as it was
+leaves-by : (memory after : List ℕ) (number : ℕ) (long fits held : Bool) →
+    let m = cond long (cond fits (cond held (leaves number memory) (leaves 0 after)) (leaves 4 memory)) (leaves 2 memory) in
+    (m .heard .number ≡ 0 → ⊥) → m .memory ≡ memory
+leaves-by memory after number false fits held n = refl
+leaves-by memory after number true false held n = refl
+leaves-by memory after number true true true n = refl
+leaves-by memory after number true true false n = absurd (n refl)
+
+pub store-leaves : (z : Sizes) (a p : Slot) (l : List ℕ) (first : ℕ) (bytes : List ℕ)
+    → (storeHeard z a p l first bytes .heard .number ≡ 0 → ⊥) → storeHeard z a p l first bytes .memory ≡ l
+unfolding storeHeard
+store-leaves z a p l first bytes =
+    leaves-by l (putInto l (5 * first) bytes) 8 (eqb (length l) (5 * z .entries) && eqb (length bytes % 5) 0)
+    (leb (first + length bytes / 5) (z .entries))
+    (touches a first (length bytes / 5) || touches p first (length bytes / 5))
+
+pub write-leaves : (z : Sizes) (a p : Slot) (number offset : ℕ) (bytes buffer : List ℕ)
+    → (writeHeard z a p number offset bytes buffer .heard .number ≡ 0 → ⊥) → writeHeard z a p number offset bytes buffer .memory ≡ buffer
+unfolding writeHeard
+write-leaves z a p number offset bytes buffer =
+    leaves-by buffer (putInto buffer offset bytes) 7 (leb number 1 && eqb (length buffer) (z .width * z .height))
+    (leb (offset + length bytes) (z .width * z .height))
+    (a .taken || p .taken)
 
 -- ---- bytes into a memory
 pub put-start : (l : List ℕ) (at : ℕ) (bytes : List ℕ) → l ≡ paste l at bytes 0

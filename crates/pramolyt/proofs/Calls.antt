@@ -1,0 +1,75 @@
+-- A call on an image answers as the call on its record, and is refused where the image is no record's.
+-- Assumes nothing.
+use mathlib.Core.Path.{_≡_, ap}
+use mathlib.Core.Bool.{Bool, true, false, not}
+use mathlib.Core.List.{List}
+use Prim.Native.Nat.{ℕ}
+use borrow.Author.Tests.{not-true, not-false}
+use Rattle.slots.specs.Answers.{toldOf}
+use Rattle.board.specs.Calls.{reply, makeCall, postCall, written, storeCall, writeCall}
+use Rattle.board.specs.Steps.{machine}
+use Rattle.board.specs.Runs.{outcome, runCall}
+use Rattle.board.specs.declared.answers.Answer.{Answer}
+use Rattle.board.specs.declared.record.Board.{Board}
+use Rattle.pramolyt.specs.Image.{wordsOf, boardOf, flagsOk}
+use Rattle.pramolyt.specs.Exports.{ofImage, made, madeBy, makeImage, posted, postedBy, postImage, changed, changedBy, storeImage, writeImage, ran, ranBy, runImage}
+
+-- a flag is neither 0 nor 1
+module _ (w : List ℕ) (t : Bool) (judged : t ≡ flagsOk w) (bad : not t ≡ true) where
+  refused : {A : Type 0} (done stays : A) → stays ≡ ofImage w done stays
+  refused done stays = rw (← judged, not-true t bad)
+
+  pub post-refused : (list : List ℕ) (start count : ℕ) → posted 1 w 0 ≡ postImage w list start count
+  unfolding postImage
+  post-refused list start count = refused (postedBy (postCall list start count (boardOf w))) (posted 1 w 0)
+
+  pub store-refused : (list : List ℕ) (first : ℕ) (bytes : List ℕ) → changed 1 w list ≡ storeImage w list first bytes
+  unfolding storeImage
+  store-refused list first bytes = refused (changedBy (storeCall list first bytes (boardOf w))) (changed 1 w list)
+
+  pub write-refused : (number offset : ℕ) (bytes buffer : List ℕ) → changed 1 w buffer ≡ writeImage w number offset bytes buffer
+  unfolding writeImage
+  write-refused number offset bytes buffer =
+      refused (changedBy (writeCall number offset bytes buffer (boardOf w))) (changed 1 w buffer)
+
+  pub run-refused : (budget : ℕ) (list display virt : List ℕ) → ran 1 w 0 display virt ≡ runImage w budget list display virt
+  unfolding runImage
+  run-refused budget list display virt =
+      refused (ranBy (runCall budget list (machine (boardOf w) display virt))) (ran 1 w 0 display virt)
+
+-- an answer handed back
+module _ (a : Answer) (words : List ℕ) (encoded : words ≡ wordsOf (a .board)) (number : ℕ) (numbered : number ≡ toldOf (a .heard) .number) where
+  pub make-done : (width height entries : ℕ) → reply a ≡ makeCall width height entries → made number words ≡ makeImage width height entries
+  unfolding makeImage
+  make-done width height entries answered = rw (encoded, numbered) (ap madeBy answered)
+
+  -- the call on the record of an image
+  module _ (w : List ℕ) (t : Bool) (judged : t ≡ flagsOk w) (good : not t ≡ false) (b : Board) (decoded : b ≡ boardOf w) where
+    done : {A R : Type 0} (handed : R → A) (call : Board → R) (r : R) → r ≡ call b → (stays : A)
+        → handed r ≡ ofImage w (handed (call (boardOf w))) stays
+    done handed call r answered stays = rw (← judged, not-false t good, answered, decoded)
+
+    pub post-done : (list : List ℕ) (start count : ℕ) → reply a ≡ postCall list start count b → (place : ℕ)
+        → place ≡ toldOf (a .heard) .place → posted number words place ≡ postImage w list start count
+    unfolding postImage
+    post-done list start count answered place placed =
+        rw (encoded, numbered, placed) (done postedBy (postCall list start count) (reply a) answered (posted 1 w 0))
+
+    pub store-done : (list : List ℕ) (first : ℕ) (bytes memory : List ℕ) → written a memory ≡ storeCall list first bytes b
+        → changed number words memory ≡ storeImage w list first bytes
+    unfolding storeImage
+    store-done list first bytes memory answered =
+        rw (encoded, numbered) (done changedBy (storeCall list first bytes) (written a memory) answered (changed 1 w list))
+
+    pub write-done : (n offset : ℕ) (bytes buffer memory : List ℕ) → written a memory ≡ writeCall n offset bytes buffer b
+        → changed number words memory ≡ writeImage w n offset bytes buffer
+    unfolding writeImage
+    write-done n offset bytes buffer memory answered =
+        rw (encoded, numbered) (done changedBy (writeCall n offset bytes buffer) (written a memory) answered (changed 1 w buffer))
+
+    pub run-done : (budget : ℕ) (list display virt d v : List ℕ) → outcome a d v ≡ runCall budget list (machine b display virt)
+        → (steps : ℕ) → steps ≡ toldOf (a .heard) .steps → ran number words steps d v ≡ runImage w budget list display virt
+    unfolding runImage
+    run-done budget list display virt d v answered steps stepped =
+        rw (encoded, numbered, stepped)
+        (done ranBy (λ b. runCall budget list (machine b display virt)) (outcome a d v) answered (ran 1 w 0 display virt))

@@ -1,0 +1,108 @@
+-- What each exported function does (01, What the host hears): the answer's number, the image after the call, and each memory
+-- that it is lent to write.
+use mathlib.Core.Path.{_≡_}
+use mathlib.Core.Bool.{cond}
+use mathlib.Core.List.{List}
+use Prim.Native.Nat.{ℕ}
+use lib.ListN.{length}
+use Rattle.board.specs.Calls.{Reply, makeCall, postCall, Written, storeCall, writeCall}
+use Rattle.board.specs.Steps.{machine}
+use Rattle.board.specs.Runs.{Outcome, runCall}
+use Rattle.pramolyt.specs.Image.{wordsOf, boardOf, flagsOk}
+
+-- An image with a flag that is neither 0 nor 1 is no record's: "1, record malformed".
+abbrev pub ofImage : {A : Type 0} → List ℕ → A → A → A
+ofImage w done refused = cond (flagsOk w) done refused
+
+-- ---- make
+pub record Made : Type 0 where
+  pub number : ℕ
+  pub words : List ℕ
+
+abbrev pub made : ℕ → List ℕ → Made
+made number words = record { number = number; words = words }
+
+abbrev pub madeBy : Reply → Made
+madeBy r = made (r .heard .number) (wordsOf (r .board))
+
+-- "Make: 2, returning then the fresh 1 by 1 board with 1 entry." The image that stood there is not read.
+unfoldable pub makeImage : ℕ → ℕ → ℕ → Made
+makeImage width height entries = madeBy (makeCall width height entries)
+
+-- ---- post
+pub record Posted : Type 0 where
+  pub number : ℕ
+  pub words : List ℕ
+  pub place : ℕ
+
+abbrev pub posted : ℕ → List ℕ → ℕ → Posted
+posted number words place = record { number = number; words = words; place = place }
+
+abbrev pub postedBy : Reply → Posted
+postedBy r = posted (r .heard .number) (wordsOf (r .board)) (r .heard .place)
+
+-- "Post: 1 to 6." "The place is zero but in 6."
+unfoldable pub postImage : List ℕ → List ℕ → ℕ → ℕ → Posted
+postImage w list start count = ofImage w (postedBy (postCall list start count (boardOf w))) (posted 1 w 0)
+
+-- ---- store and window write
+pub record Changed : Type 0 where
+  pub number : ℕ
+  pub words : List ℕ
+  pub memory : List ℕ
+
+abbrev pub changed : ℕ → List ℕ → List ℕ → Changed
+changed number words memory = record { number = number; words = words; memory = memory }
+
+abbrev pub changedBy : Written → Changed
+changedBy r = changed (r .heard .number) (wordsOf (r .board)) (r .memory)
+
+-- "List store: 1, 2, 4, 8."
+unfoldable pub storeImage : List ℕ → List ℕ → ℕ → List ℕ → Changed
+storeImage w list first bytes = ofImage w (changedBy (storeCall list first bytes (boardOf w))) (changed 1 w list)
+
+-- "Window write (buffer, offset, bytes): 1, 2, 4, 7." The memory is the buffer that is named.
+unfoldable pub writeImage : List ℕ → ℕ → ℕ → List ℕ → List ℕ → Changed
+writeImage w number offset bytes buffer =
+    ofImage w (changedBy (writeCall number offset bytes buffer (boardOf w))) (changed 1 w buffer)
+
+-- ---- run
+pub record Ran : Type 0 where
+  pub number : ℕ
+  pub words : List ℕ
+  pub steps : ℕ
+  pub display : List ℕ
+  pub virt : List ℕ
+
+abbrev pub ran : ℕ → List ℕ → ℕ → List ℕ → List ℕ → Ran
+ran number words steps display virt =
+    record { number = number; words = words; steps = steps; display = display; virt = virt }
+
+abbrev pub ranBy : Outcome → Ran
+ranBy o = ran (o .heard .number) (wordsOf (o .after .board)) (o .heard .steps) (o .after .display) (o .after .virt)
+
+-- "Run: 1, 2, 9." The step count is zero "but in 9 and in a done run".
+unfoldable pub runImage : List ℕ → ℕ → List ℕ → List ℕ → List ℕ → Ran
+runImage w budget list display virt =
+    ofImage w (ranBy (runCall budget list (machine (boardOf w) display virt))) (ran 1 w 0 display virt)
+
+-- ---- refusals: "record as given", and "Lent bytes that no rule writes stay, and in a refusal other than 9 all stay."
+abbrev pub RefusedPost : Type 0
+RefusedPost =
+    (w list : List ℕ) (start count : ℕ) → length w ≡ 28 → let r = postImage w list start count in
+    (r .number ≡ 0 → ⊥) → r .words ≡ w
+
+abbrev pub RefusedStore : Type 0
+RefusedStore =
+    (w list : List ℕ) (first : ℕ) (bytes : List ℕ) → length w ≡ 28 → let r = storeImage w list first bytes in
+    (r .number ≡ 0 → ⊥) → (r .words ≡ w) × (r .memory ≡ list)
+
+abbrev pub RefusedWrite : Type 0
+RefusedWrite =
+    (w : List ℕ) (number offset : ℕ) (bytes buffer : List ℕ) → length w ≡ 28 → let r = writeImage w number offset bytes buffer in
+    (r .number ≡ 0 → ⊥) → (r .words ≡ w) × (r .memory ≡ buffer)
+
+abbrev pub RefusedRun : Type 0
+RefusedRun =
+    (w : List ℕ) (budget : ℕ) (list display virt : List ℕ) → length w ≡ 28 → let r = runImage w budget list display virt in
+    (r .number ≡ 0 → ⊥) → (r .number ≡ 9 → ⊥) → (r .words ≡ w) × (r .display ≡ display) × (r .virt ≡ virt)

@@ -1,0 +1,114 @@
+// The exported C functions, as include/pramolyt.h declares them. The board record is an image of 28 words, which the caller
+// keeps (document 01, What the engine has); each call answers the paper's number (What the host hears).
+ghost use mathlib.Core.Path.{_≡_};
+ghost use Rattle.pramolyt.specs.Exports.{made, makeImage, posted, postImage, changed, storeImage, writeImage, ran, runImage};
+
+mod image;
+
+use board::Board;
+use image::decode;
+use image::encode;
+use image::flags_ok;
+
+#[no_mangle]
+pub extern "C" fn pramolyt_make(
+    board: &mut [u32; 28],
+    width: usize,
+    height: usize,
+    entries: usize,
+) -> u32
+    ensures { λ r. ⌜ made r (now (board .exit)) ≡ makeImage width height entries ⌝ }
+{
+    let made = Board::make(width, height, entries);
+    let heard = made.heard;
+    *board = encode(made.board);
+    heard.number()
+}
+
+#[no_mangle]
+pub extern "C" fn pramolyt_post(
+    board: &mut [u32; 28],
+    place: &mut u64,
+    list: &[u8],
+    start: usize,
+    count: usize,
+) -> u32
+    ensures { λ r. ⌜ posted r (now (board .exit)) (now (place .exit)) ≡ postImage (now (board .entry)) (now (list .entry)) start count ⌝ }
+{
+    let w = *board;
+    if !flags_ok(w) {
+        *place = 0;
+        return 1;
+    }
+    let b = decode(w);
+    let posted = b.post(list, start, count);
+    let heard = posted.heard;
+    *board = encode(posted.board);
+    *place = heard.place() as u64;
+    heard.number()
+}
+
+#[no_mangle]
+pub extern "C" fn pramolyt_store(
+    board: &mut [u32; 28],
+    list: &mut [u8],
+    first: usize,
+    bytes: &[u8],
+) -> u32
+    ensures { λ r. ⌜ changed r (now (board .exit)) (now (list .exit)) ≡ storeImage (now (board .entry)) (now (list .entry)) first (now (bytes .entry)) ⌝ }
+{
+    let w = *board;
+    if !flags_ok(w) {
+        return 1;
+    }
+    let b = decode(w);
+    let stored = b.store(list, first, bytes);
+    let heard = stored.heard;
+    *board = encode(stored.board);
+    heard.number()
+}
+
+#[no_mangle]
+pub extern "C" fn pramolyt_window_write(
+    board: &mut [u32; 28],
+    number: usize,
+    offset: usize,
+    bytes: &[u8],
+    buffer: &mut [u8],
+) -> u32
+    ensures { λ r. ⌜ changed r (now (board .exit)) (now (buffer .exit)) ≡ writeImage (now (board .entry)) number offset (now (bytes .entry)) (now (buffer .entry)) ⌝ }
+{
+    let w = *board;
+    if !flags_ok(w) {
+        return 1;
+    }
+    let b = decode(w);
+    let written = b.window_write(number, offset, bytes, buffer);
+    let heard = written.heard;
+    *board = encode(written.board);
+    heard.number()
+}
+
+#[no_mangle]
+pub extern "C" fn pramolyt_run(
+    board: &mut [u32; 28],
+    steps: &mut u64,
+    budget: u64,
+    list: &[u8],
+    display: &mut [u8],
+    virt: &mut [u8],
+) -> u32
+    ensures { λ r. ⌜ ran r (now (board .exit)) (now (steps .exit)) (now (display .exit)) (now (virt .exit)) ≡ runImage (now (board .entry)) budget (now (list .entry)) (now (display .entry)) (now (virt .entry)) ⌝ }
+{
+    let w = *board;
+    if !flags_ok(w) {
+        *steps = 0;
+        return 1;
+    }
+    let b = decode(w);
+    let ran = b.run(budget, list, display, virt);
+    let heard = ran.heard;
+    *board = encode(ran.board);
+    *steps = heard.steps();
+    heard.number()
+}

@@ -1,0 +1,139 @@
+/* The board engine for C and C++: libpramolyt.a, x86-64, System V ABI.
+ *
+ * Every function takes every number, every record and memories of every length, and has one outcome for each of them; no
+ * call stops, allocates or keeps a pointer. What only the caller can see to:
+ *  - board, place and steps are not null, are aligned, and point to one value each;
+ *  - a length is what its pointer really has behind it; with a length of 0 any pointer will do, NULL too;
+ *  - nothing that one pointer of a call lends for writing overlaps what another pointer of that call lends, and no other
+ *    thread touches any of it during the call.
+ */
+#ifndef PRAMOLYT_H
+#define PRAMOLYT_H
+
+#include <stddef.h>
+#include <stdint.h>
+
+#ifdef __cplusplus
+extern "C" {
+#endif
+
+/* What a call answers. In every refusal but PRAMOLYT_ILLEGAL_FETCH, and but for a refused make, record and memories stay
+ * as they were. Where several grounds hold, the lowest number is answered. */
+enum {
+    PRAMOLYT_DONE = 0,
+    PRAMOLYT_MALFORMED = 1,      /* the record is none that the calls can lead to */
+    PRAMOLYT_WRONG_SIZE = 2,     /* sizes outside the limits, a memory of another size than the record says, a buffer
+                                    number above 1, or stored bytes that are no multiple of 5 */
+    PRAMOLYT_NO_ENTRIES = 3,     /* a list of no entries */
+    PRAMOLYT_PAST_THE_END = 4,   /* a span passes the end of its memory */
+    PRAMOLYT_SLOTS_TAKEN = 5,    /* both slots are taken */
+    PRAMOLYT_ILLEGAL_ENTRY = 6,  /* the list has an illegal entry; *place is the first one */
+    PRAMOLYT_SLOT_TAKEN = 7,     /* a window write while a slot is taken */
+    PRAMOLYT_ENTRY_HELD = 8,     /* a store touches an entry of a list in a slot */
+    PRAMOLYT_ILLEGAL_FETCH = 9   /* a run came to an illegal entry; the *steps before it stand */
+};
+
+/* The board record. The caller keeps it between calls and need not look into it. A flag is 0 or 1; a record with another
+ * value in a flag is malformed. */
+typedef struct pramolyt_board {
+    uint32_t width;  /* 1 to 2048 */
+    uint32_t height; /* 1 to 2048 */
+    uint32_t entries; /* entries of list memory, 1 to 4096 */
+    uint32_t active_taken; /* flag */
+    uint32_t active_start;
+    uint32_t active_count;
+    uint32_t pending_taken; /* flag */
+    uint32_t pending_start;
+    uint32_t pending_count;
+    uint32_t next;      /* the active list's next entry */
+    uint32_t under_way; /* flag: a command has pixels left to visit */
+    uint32_t visited;   /* its visited pixels */
+    uint32_t cmd;
+    uint32_t fore;
+    uint32_t back;
+    uint32_t mask;
+    uint32_t key;
+    uint32_t lpat;
+    uint32_t pctrl;
+    uint32_t clptl;
+    uint32_t clpbr;
+    uint32_t xy0;
+    uint32_t xy2;
+    uint32_t xy3;
+    uint32_t xy1;
+    uint32_t pattern_place;
+    uint32_t pattern_repeat;
+    uint32_t last; /* the last point: x in the high half, y in the low half, each two's complement */
+} pramolyt_board;
+
+/* A fresh board into *board, whatever stood there: 0. With sizes outside the limits 2, and *board is the fresh 1 by 1
+ * board with 1 entry. The caller lends each call its memories: list memory of 5 * entries bytes, and two buffers, display
+ * and virtual, of width * height bytes each. */
+uint32_t pramolyt_make(pramolyt_board *board, size_t width, size_t height, size_t entries);
+
+/* Posts the list of `count` entries from entry `start` on: 0, 1, 2, 3, 4, 5 or 6. *place is the first illegal entry,
+ * counted over the whole list memory, where the answer is 6, else 0. */
+uint32_t pramolyt_post(pramolyt_board *board, uint64_t *place, const uint8_t *list, size_t list_len, size_t start,
+                       size_t count);
+
+/* Stores bytes into list memory from entry `first` on: 0, 1, 2, 4 or 8. */
+uint32_t pramolyt_store(pramolyt_board *board, uint8_t *list, size_t list_len, size_t first, const uint8_t *bytes,
+                        size_t bytes_len);
+
+/* Writes bytes from `offset` on into buffer `number`, 0 for display and 1 for virtual, which is the one that is lent: 0,
+ * 1, 2, 4 or 7. */
+uint32_t pramolyt_window_write(pramolyt_board *board, size_t number, size_t offset, const uint8_t *bytes,
+                               size_t bytes_len, uint8_t *buffer, size_t buffer_len);
+
+/* Runs the posted lists for at most `budget` steps (an entry fetched or a pixel visited): 0, 1, 2 or 9. *steps is the steps
+ * done; with 0 it is the lesser of the budget and the steps left in both lists. */
+uint32_t pramolyt_run(pramolyt_board *board, uint64_t *steps, uint64_t budget, const uint8_t *list, size_t list_len,
+                      uint8_t *display, size_t display_len, uint8_t *virt, size_t virt_len);
+
+#ifdef __cplusplus
+}
+#endif
+
+/* The library reads the record as 28 words in this order. */
+#if defined(__cplusplus) && __cplusplus >= 201103L
+#define PRAMOLYT_ASSERT(fact, text) static_assert(fact, text);
+#elif defined(__STDC_VERSION__) && __STDC_VERSION__ >= 201112L
+#define PRAMOLYT_ASSERT(fact, text) _Static_assert(fact, text);
+#else
+#define PRAMOLYT_ASSERT(fact, text)
+#endif
+#define PRAMOLYT_WORD(member, word) PRAMOLYT_ASSERT(offsetof(pramolyt_board, member) == 4 * (word), #member " is word " #word)
+PRAMOLYT_ASSERT(sizeof(size_t) == 8, "size_t has 64 bits")
+PRAMOLYT_ASSERT(sizeof(pramolyt_board) == 28 * 4, "pramolyt_board is 28 words")
+PRAMOLYT_WORD(width, 0)
+PRAMOLYT_WORD(height, 1)
+PRAMOLYT_WORD(entries, 2)
+PRAMOLYT_WORD(active_taken, 3)
+PRAMOLYT_WORD(active_start, 4)
+PRAMOLYT_WORD(active_count, 5)
+PRAMOLYT_WORD(pending_taken, 6)
+PRAMOLYT_WORD(pending_start, 7)
+PRAMOLYT_WORD(pending_count, 8)
+PRAMOLYT_WORD(next, 9)
+PRAMOLYT_WORD(under_way, 10)
+PRAMOLYT_WORD(visited, 11)
+PRAMOLYT_WORD(cmd, 12)
+PRAMOLYT_WORD(fore, 13)
+PRAMOLYT_WORD(back, 14)
+PRAMOLYT_WORD(mask, 15)
+PRAMOLYT_WORD(key, 16)
+PRAMOLYT_WORD(lpat, 17)
+PRAMOLYT_WORD(pctrl, 18)
+PRAMOLYT_WORD(clptl, 19)
+PRAMOLYT_WORD(clpbr, 20)
+PRAMOLYT_WORD(xy0, 21)
+PRAMOLYT_WORD(xy2, 22)
+PRAMOLYT_WORD(xy3, 23)
+PRAMOLYT_WORD(xy1, 24)
+PRAMOLYT_WORD(pattern_place, 25)
+PRAMOLYT_WORD(pattern_repeat, 26)
+PRAMOLYT_WORD(last, 27)
+#undef PRAMOLYT_WORD
+#undef PRAMOLYT_ASSERT
+
+#endif
