@@ -10,7 +10,7 @@ use lib.Dec.{eqb, ltb}
 use lib.ListN.{length, getD, drop}
 use lib.Seq.{drop-length, drop-cons}
 use Rattle.lemmas.proofs.Booleans.{and-left, and-right}
-use Rattle.pramolyt.specs.Image.{flagOf, wordsOf, boardOf, flagsOk, DecodesEncoded, EncodesDecoded}
+use Rattle.pramolyt.specs.Image.{flagOf, DecodesEncoded, EncodesDecoded}
 
 flag-decoded : (t : Bool) → eqb (flagOf t) 1 ≡ t
 flag-decoded true = refl

@@ -1,0 +1,90 @@
+//! A call with its arguments, other than the board record and the lent memories.
+
+use std::fmt;
+
+/// The names of the calls, by [`Call::kind`].
+pub const CALLS: [&str; 5] = ["make", "post", "store", "window write", "run"];
+
+/// The answers that document 01 allows each call, by [`Call::kind`].
+pub const ALLOWED: [&[usize]; 5] = [
+    &[0, 2],
+    &[0, 1, 2, 3, 4, 5, 6],
+    &[0, 1, 2, 4, 8],
+    &[0, 1, 2, 4, 7],
+    &[0, 1, 2, 9],
+];
+
+/// A call.
+pub enum Call {
+    /// Make a board of this size.
+    Make {
+        /// Pixels in a row.
+        width: u64,
+        /// Rows.
+        height: u64,
+        /// Entries of list memory.
+        entries: u64,
+    },
+    /// Post a list.
+    Post {
+        /// Its first entry.
+        start: u64,
+        /// Its entries.
+        count: u64,
+    },
+    /// Store into list memory.
+    Store {
+        /// The first entry.
+        first: u64,
+        /// What is stored.
+        bytes: Vec<u8>,
+    },
+    /// Write into a buffer.
+    WindowWrite {
+        /// The buffer's number.
+        number: u64,
+        /// The place of the first byte.
+        offset: u64,
+        /// What is written.
+        bytes: Vec<u8>,
+    },
+    /// Run.
+    Run {
+        /// At most so many steps.
+        budget: u64,
+    },
+}
+
+impl Call {
+    /// Which of [`CALLS`] it is.
+    pub fn kind(&self) -> usize {
+        match self {
+            Call::Make { .. } => 0,
+            Call::Post { .. } => 1,
+            Call::Store { .. } => 2,
+            Call::WindowWrite { .. } => 3,
+            Call::Run { .. } => 4,
+        }
+    }
+}
+
+impl fmt::Display for Call {
+    fn fmt(&self, f: &mut fmt::Formatter<'_>) -> fmt::Result {
+        write!(f, "{}", CALLS[self.kind()])?;
+        match self {
+            Call::Make {
+                width,
+                height,
+                entries,
+            } => write!(f, " {width} by {height}, {entries} entries"),
+            Call::Post { start, count } => write!(f, " start {start}, count {count}"),
+            Call::Store { first, bytes } => write!(f, " first {first}, bytes {bytes:02X?}"),
+            Call::WindowWrite {
+                number,
+                offset,
+                bytes,
+            } => write!(f, " number {number}, offset {offset}, bytes {bytes:02X?}"),
+            Call::Run { budget } => write!(f, " budget {budget}"),
+        }
+    }
+}

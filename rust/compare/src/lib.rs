@@ -1,0 +1,15 @@
+//! The proved engine and the independent reference, driven side by side over random sequences of calls. After each call
+//! the answer, every word of the record and every byte of the memories must be equal; in honest sequences, which begin
+//! with make and lend the right memories, the paper board of document 01 must agree too.
+#![deny(missing_docs)]
+
+pub mod call;
+pub mod choose;
+pub mod difference;
+pub mod lists;
+pub mod paper;
+pub mod random;
+pub mod sequence;
+pub mod sides;
+pub mod spoil;
+pub mod tally;

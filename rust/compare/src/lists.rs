@@ -1,0 +1,298 @@
+//! Random entries of display lists: mostly legal, of every register and command, on the board, near it and far from it.
+
+use crate::random::Random;
+use reference::Record;
+use reference::entries::register::{
+    CLPBR, CLPTL, CMD, COUNT, LPAT, MASK, PCTRL, XY0, XY1, XY2, XY3,
+};
+use reference::entries::{flag, opcode};
+use std::ops::RangeInclusive;
+
+/// Bytes of an entry.
+pub const ENTRY: usize = 5;
+
+/// How often each register is written, by its number.
+const OFTEN: [u64; COUNT] = [8, 2, 2, 2, 2, 2, 3, 2, 2, 6, 5, 4, 12];
+
+/// A board's size, which the coordinates go by.
+#[derive(Clone, Copy)]
+pub struct Size {
+    /// Pixels in a row.
+    pub width: i64,
+    /// Rows.
+    pub height: i64,
+}
+
+impl Size {
+    /// The size that a record has, kept within the limits.
+    pub fn of(record: &Record) -> Size {
+        let side = |word: u32| i64::from(word.clamp(1, 2_048));
+        Size {
+            width: side(record.width),
+            height: side(record.height),
+        }
+    }
+}
+
+/// The bytes of an entry.
+pub fn entry(register: usize, data: u32) -> [u8; ENTRY] {
+    let [a, b, c, d] = data.to_be_bytes();
+    [(register << 3) as u8, a, b, c, d]
+}
+
+/// A list of so many entries, each legal but perhaps one.
+pub fn list(random: &mut Random, size: Size, entries: usize) -> Vec<u8> {
+    let mut bytes = Vec::with_capacity(entries * ENTRY);
+    for _ in 0..entries {
+        bytes.extend(legal_entry(random, size));
+    }
+    if random.one_in(1_000) {
+        let line = crossing_line(random, size);
+        put_anywhere(random, &mut bytes, &line);
+    }
+    if random.one_in(8) {
+        let entry = doubtful_entry(random, size);
+        put_anywhere(random, &mut bytes, &entry);
+    }
+    bytes
+}
+
+/// Puts entries over some of a list's, where it has so many.
+fn put_anywhere(random: &mut Random, list: &mut [u8], entries: &[u8]) {
+    if let Some(room) = list.len().checked_sub(entries.len()) {
+        let at = random.below((room / ENTRY) as u64 + 1) as usize * ENTRY;
+        list[at..at + entries.len()].copy_from_slice(entries);
+    }
+}
+
+/// A line from far on the one side of the board, across it, to far on the other side.
+fn crossing_line(random: &mut Random, size: Size) -> Vec<u8> {
+    let far = |random: &mut Random| match random.below(4) {
+        0 => random.between(-32_768, 32_767),
+        _ => random.pick(&[-32_768, 32_767]),
+    };
+    let (x, y) = (far(random), far(random));
+    let across = |random: &mut Random, from: i64, limit: i64| {
+        (2 * random.between(0, limit) - from).clamp(-32_768, 32_767)
+    };
+    let end = halves(
+        across(random, x, size.width),
+        across(random, y, size.height),
+    );
+    let command = opcode::LINE << 28 | 3 << 24 | line_flags(random);
+    [(CMD, command), (XY0, halves(x, y)), (XY1, end)]
+        .into_iter()
+        .flat_map(|(register, data)| entry(register, data))
+        .collect()
+}
+
+/// A legal entry.
+pub fn legal_entry(random: &mut Random, size: Size) -> [u8; ENTRY] {
+    let register = random.weighted(&OFTEN);
+    entry(register, legal_data(random, size, register))
+}
+
+/// An entry that is not legal, or only just.
+pub fn doubtful_entry(random: &mut Random, size: Size) -> [u8; ENTRY] {
+    let mut bytes = legal_entry(random, size);
+    match random.below(5) {
+        0 => bytes[0] |= random.between(1, 7) as u8,
+        1 => bytes[0] = (random.between(13, 31) << 3) as u8,
+        2 => bytes[random.below(5) as usize] ^= 1 << random.below(8),
+        3 => return entry(random.below(COUNT as u64) as usize, random.half()),
+        _ => {
+            let (register, data) = random.pick(&[
+                (CMD, 0x0100_0000),
+                (CMD, 0x0000_8000),
+                (CMD, 0x2300_0000),
+                (CMD, 0x3380_0000),
+                (CMD, 0x1340_0000),
+                (CMD, 0x1390_0000),
+                (CMD, 0x2381_0000),
+                (CMD, 0x5390_0000),
+                (MASK, 255),
+                (MASK, 256),
+                (PCTRL, 0x2003),
+                (PCTRL, 0x0303),
+                (PCTRL, 0x0203),
+                (PCTRL, 0x1F00),
+                (PCTRL, 0x0010_0000),
+                (XY2, 0x0800_0800),
+                (XY2, 0x0801_0000),
+                (XY2, 0x0000_0801),
+                (XY3, 3),
+                (XY3, 4),
+            ]);
+            return entry(register, data);
+        }
+    }
+    bytes
+}
+
+/// Data that the register may hold.
+pub fn legal_data(random: &mut Random, size: Size, register: usize) -> u32 {
+    match register {
+        CMD => command(random),
+        MASK => any_or(random, 0x00..=0xFF, &[0xFF, 0xFF, 0x0F, 0xF0, 0x00]) as u32,
+        LPAT => any_or(random, 0..=0xFFFF_FFFF, &[0, 5, 0xAAAA_AAAA, 0xFFFF_FFFF]) as u32,
+        PCTRL => pattern_control(random),
+        CLPTL => clip_corner(random, size, (0, 0)),
+        CLPBR => clip_corner(random, size, (size.width, size.height)),
+        XY0 | XY1 => point(random, size),
+        XY2 => extent(random, size),
+        XY3 => random.below(4) as u32,
+        _ => colour(random),
+    }
+}
+
+/// A number of the range, or one of the values.
+fn any_or(random: &mut Random, range: RangeInclusive<i64>, values: &[i64]) -> i64 {
+    if random.one_in(3) {
+        random.between(*range.start(), *range.end())
+    } else {
+        random.pick(values)
+    }
+}
+
+/// Half of the colours are few, so that KEY finds its pixels.
+fn colour(random: &mut Random) -> u32 {
+    random.half() & random.pick(&[0xFF, 0x03])
+}
+
+fn command(random: &mut Random) -> u32 {
+    let opcodes = [opcode::NOOP, opcode::BITBLT, opcode::LINE, opcode::PLINE];
+    let opcode = opcodes[random.weighted(&[1, 8, 6, 6])];
+    let code = any_or(random, 0..=15, &[3, 3, 0, 6, 12, 15]) as u32;
+    let flags = match opcode {
+        opcode::NOOP => return 0,
+        opcode::BITBLT => blit_flags(random),
+        _ => line_flags(random),
+    };
+    opcode << 28 | code << 24 | flags
+}
+
+fn blit_flags(random: &mut Random) -> u32 {
+    let styles: [&[u32]; 6] = [
+        &[flag::SOLID],
+        &[flag::SOLID, flag::TRNSP],
+        &[],
+        &[],
+        &[flag::KEY],
+        &[flag::KEY],
+    ];
+    let free = bits(&[flag::CLIP, flag::SOURCE, flag::DESTINATION]);
+    bits(random.pick(&styles)) | random.half() & free
+}
+
+fn line_flags(random: &mut Random) -> u32 {
+    let styles: [&[u32]; 4] = [
+        &[flag::SOLID],
+        &[flag::STPL],
+        &[flag::STPL],
+        &[flag::SOLID, flag::STPL],
+    ];
+    let free = bits(&[
+        flag::TRNSP,
+        flag::NLST,
+        flag::PRST,
+        flag::CLIP,
+        flag::DESTINATION,
+    ]);
+    bits(random.pick(&styles)) | random.half() & free
+}
+
+fn bits(flags: &[u32]) -> u32 {
+    flags.iter().map(|flag| 1 << flag).sum()
+}
+
+/// Any length, place, scale and repeat.
+fn pattern_control(random: &mut Random) -> u32 {
+    let length = any_or(random, 1..=32, &[1, 2, 3, 8, 31, 32]);
+    let place = any_or(random, 0..=length - 1, &[0, length - 1]);
+    let scale = any_or(random, 1..=8, &[1, 2]);
+    let repeat = any_or(random, 0..=scale - 1, &[0, scale - 1]);
+    (repeat << 13 | place << 8 | (scale - 1) << 5 | (length % 32)) as u32
+}
+
+/// A corner of the clip rectangle: near its own corner of the board, or anywhere, which makes some clips reversed.
+fn clip_corner(random: &mut Random, size: Size, own: (i64, i64)) -> u32 {
+    if random.one_in(6) {
+        return point(random, size);
+    }
+    let near = |random: &mut Random, limit: i64, at: i64| {
+        let reach = (limit / 3).clamp(1, 20);
+        at + random.between(-reach, reach)
+    };
+    let x = near(random, size.width, own.0);
+    let y = near(random, size.height, own.1);
+    halves(x, y)
+}
+
+fn halves(high: i64, low: i64) -> u32 {
+    u32::from(high as u16) << 16 | u32::from(low as u16)
+}
+
+/// A point on the board, mostly; near it; or anywhere up to the extremes of 16 bits.
+pub fn point(random: &mut Random, size: Size) -> u32 {
+    let x = coordinate(random, size.width);
+    let y = coordinate(random, size.height);
+    halves(x, y)
+}
+
+fn coordinate(random: &mut Random, limit: i64) -> i64 {
+    let edge = limit.min(8);
+    match random.weighted(&[700, 400, 400, 600, 80, 2, 1]) {
+        0 => random.between(0, limit - 1),
+        1 => random.between(0, edge - 1),
+        2 => random.between(limit - edge, limit - 1),
+        3 => random.between(-3, limit + 2),
+        4 => random.between(-40 - limit, 2 * limit + 40),
+        5 => random.pick(&[-32_768, -32_767, 32_766, 32_767]),
+        _ => random.between(-32_768, 32_767),
+    }
+}
+
+/// Width and height of a blit. Where the one is great, the other is mostly small.
+fn extent(random: &mut Random, size: Size) -> u32 {
+    const PIXELS: i64 = 500;
+    let width = side(random, size.width);
+    let height = side(random, size.height);
+    if width * height <= PIXELS || random.one_in(30) {
+        halves(width, height)
+    } else if random.one_in(2) {
+        halves(width, height % (PIXELS / width + 2))
+    } else {
+        halves(width % (PIXELS / height + 2), height)
+    }
+}
+
+fn side(random: &mut Random, limit: i64) -> i64 {
+    match random.weighted(&[2, 3, 30, 20, 6, 1]) {
+        0 => 0,
+        1 => 1,
+        2 => random.between(1, limit.min(10) + 2),
+        3 => random.between(1, limit + 2),
+        4 => limit,
+        _ => random.pick(&[2_047, 2_048]),
+    }
+}
+
+#[cfg(test)]
+mod tests {
+    use super::{ENTRY, Size, doubtful_entry, legal_entry};
+    use crate::random::Random;
+    use reference::entries::entry_at;
+
+    #[test]
+    fn legal_entries_are_legal_and_doubtful_ones_often_not() {
+        let mut random = Random::new(1);
+        let size = Size {
+            width: 7,
+            height: 5,
+        };
+        let is_legal = |entry: [u8; ENTRY]| entry_at(&entry, 0).is_some();
+        assert!((0..10_000).all(|_| is_legal(legal_entry(&mut random, size))));
+        let legal = (0..1_000).filter(|_| is_legal(doubtful_entry(&mut random, size)));
+        assert!((50..500).contains(&legal.count()));
+    }
+}

@@ -1,0 +1,158 @@
+//! What came up: the calls by kind and answer, the steps, and the commands that budgets cut.
+
+use crate::call::{ALLOWED, CALLS, Call};
+use crate::sequence::{KINDS, Kind};
+use reference::entries::{flag, opcode};
+use reference::{Heard, Record};
+
+const OPCODES: [(&str, u32); 3] = [
+    ("BITBLT", opcode::BITBLT),
+    ("LINE", opcode::LINE),
+    ("PLINE", opcode::PLINE),
+];
+
+const FLAGS: [(&str, u32); 9] = [
+    ("SOLID", flag::SOLID),
+    ("TRNSP", flag::TRNSP),
+    ("STPL", flag::STPL),
+    ("KEY", flag::KEY),
+    ("NLST", flag::NLST),
+    ("PRST", flag::PRST),
+    ("CLIP", flag::CLIP),
+    ("source", flag::SOURCE),
+    ("destination", flag::DESTINATION),
+];
+
+/// A run of more steps has drawn a line whose length takes more than 15 bits.
+const LONG: u64 = 40_000;
+
+/// The counts.
+#[derive(Default)]
+pub struct Tally {
+    sequences: [u64; KINDS.len()],
+    answers: [[u64; 10]; CALLS.len()],
+    steps: u64,
+    /// The steps of the longest run.
+    longest: u64,
+    /// Commands left under way by a run: by opcode and raster code, by flag, blits by XY3.
+    codes: [[u64; 16]; OPCODES.len()],
+    flags: [u64; FLAGS.len()],
+    directions: [u64; 4],
+}
+
+impl Tally {
+    /// Counts a sequence.
+    pub fn sequence(&mut self, kind: Kind) {
+        self.sequences[kind as usize] += 1;
+    }
+
+    /// Counts a call, with the record that it left.
+    pub fn call(&mut self, call: &Call, heard: &Heard, record: &Record) {
+        self.answers[call.kind()][heard.number as usize] += 1;
+        self.steps += heard.steps;
+        self.longest = self.longest.max(heard.steps);
+        if heard.steps > 0 && record.under_way == 1 {
+            self.cut(record);
+        }
+    }
+
+    fn cut(&mut self, record: &Record) {
+        let command = record.state().command();
+        for (counts, (_, opcode)) in self.codes.iter_mut().zip(OPCODES) {
+            counts[command.raster_code() as usize] += u64::from(command.opcode() == opcode);
+        }
+        for (count, (_, flag)) in self.flags.iter_mut().zip(FLAGS) {
+            *count += u64::from(command.has(flag));
+        }
+        if command.opcode() == opcode::BITBLT {
+            self.directions[record.xy3 as usize] += 1;
+        }
+    }
+
+    /// All calls.
+    pub fn calls(&self) -> u64 {
+        self.answers.iter().flatten().sum()
+    }
+
+    /// All sequences.
+    pub fn sequences(&self) -> u64 {
+        self.sequences.iter().sum()
+    }
+
+    /// Adds another tally to this one.
+    pub fn add(&mut self, other: &Tally) {
+        add(&mut self.sequences, &other.sequences);
+        add(
+            self.answers.as_flattened_mut(),
+            other.answers.as_flattened(),
+        );
+        self.steps += other.steps;
+        self.longest = self.longest.max(other.longest);
+        add(self.codes.as_flattened_mut(), other.codes.as_flattened());
+        add(&mut self.flags, &other.flags);
+        add(&mut self.directions, &other.directions);
+    }
+
+    /// Each thing that has to come up, and whether it did.
+    pub fn coverage(&self) -> Vec<(String, bool)> {
+        let mut checks = Vec::new();
+        for (name, count) in KINDS.iter().zip(self.sequences) {
+            checks.push((format!("{name} sequences without a difference"), count > 0));
+        }
+        for (call, allowed) in ALLOWED.iter().enumerate() {
+            for &number in *allowed {
+                let name = format!("{} answers {number}", CALLS[call]);
+                checks.push((name, self.answers[call][number] > 0));
+            }
+        }
+        checks.push((
+            format!("a run of more than {LONG} steps"),
+            self.longest > LONG,
+        ));
+        for (counts, (name, _)) in self.codes.iter().zip(OPCODES) {
+            let name = format!("{name} is cut under every raster code");
+            checks.push((name, counts.iter().all(|&count| count > 0)));
+        }
+        for (&count, (name, _)) in self.flags.iter().zip(FLAGS) {
+            checks.push((format!("a command with {name} is cut"), count > 0));
+        }
+        for (direction, &count) in self.directions.iter().enumerate() {
+            checks.push((format!("a blit with XY3 {direction} is cut"), count > 0));
+        }
+        checks
+    }
+
+    /// Prints the counts.
+    pub fn print(&self) {
+        let calls = self.calls();
+        println!(
+            "{calls} calls, {} steps, {} in the longest run",
+            self.steps, self.longest
+        );
+        for (name, count) in KINDS.iter().zip(self.sequences) {
+            println!("{count} {name} sequences");
+        }
+        print!("{:<13}", "answer");
+        (0..10).for_each(|number| print!("{number:>10}"));
+        println!();
+        for (name, counts) in CALLS.iter().zip(&self.answers) {
+            print!("{name:<13}");
+            counts.iter().for_each(|count| print!("{count:>10}"));
+            println!();
+        }
+        println!("commands that a budget cut:");
+        for (counts, (name, _)) in self.codes.iter().zip(OPCODES) {
+            println!("  {name} by raster code {counts:?}");
+        }
+        for (count, (name, _)) in self.flags.iter().zip(FLAGS) {
+            print!("  {name} {count}");
+        }
+        println!("\n  blits by XY3 {:?}", self.directions);
+    }
+}
+
+fn add(counts: &mut [u64], others: &[u64]) {
+    for (count, other) in counts.iter_mut().zip(others) {
+        *count += other;
+    }
+}

@@ -1,0 +1,137 @@
+use std::error::Error;
+use std::fmt;
+
+/// What a call answers. Where several grounds of refusal hold, it is the one with the lowest number.
+///
+/// In every refusal but [`Answer::IllegalFetch`] the board and the lent memories stay as they were.
+#[derive(Clone, Copy, Debug, PartialEq, Eq)]
+#[must_use = "a call may be refused"]
+pub enum Answer {
+    /// 0: done.
+    Done {
+        /// The steps of a run; 0 for any other call.
+        steps: u64,
+    },
+    /// 1: the board record is none that calls can lead to.
+    Malformed,
+    /// 2: sizes outside the limits, a memory of another size than the board's, a buffer number above 1, or stored bytes
+    /// that are no whole entries.
+    WrongSize,
+    /// 3: a list of no entries.
+    NoEntries,
+    /// 4: a span passes the end of its memory.
+    PastTheEnd,
+    /// 5: both slots are taken.
+    SlotsTaken,
+    /// 6: the list has an illegal entry.
+    IllegalEntry {
+        /// The first one, counted over the whole list memory.
+        place: u64,
+    },
+    /// 7: a window write while a slot is taken.
+    SlotTaken,
+    /// 8: a store touches an entry of a list in a slot.
+    EntryHeld,
+    /// 9: a run came to an illegal entry.
+    IllegalFetch {
+        /// The steps before it, which stand.
+        steps: u64,
+    },
+}
+
+impl Answer {
+    /// What the library wrote. It answers with no other numbers.
+    pub(crate) fn heard(number: u32, place: u64, steps: u64) -> Answer {
+        match (number, place, steps) {
+            (0, 0, steps) => Answer::Done { steps },
+            (1, 0, 0) => Answer::Malformed,
+            (2, 0, 0) => Answer::WrongSize,
+            (3, 0, 0) => Answer::NoEntries,
+            (4, 0, 0) => Answer::PastTheEnd,
+            (5, 0, 0) => Answer::SlotsTaken,
+            (6, place, 0) => Answer::IllegalEntry { place },
+            (7, 0, 0) => Answer::SlotTaken,
+            (8, 0, 0) => Answer::EntryHeld,
+            (9, 0, steps) => Answer::IllegalFetch { steps },
+            _ => unreachable!("answer {number}, place {place}, steps {steps}"),
+        }
+    }
+
+    /// The paper's number, 0 to 9.
+    pub fn number(self) -> u32 {
+        match self {
+            Answer::Done { .. } => 0,
+            Answer::Malformed => 1,
+            Answer::WrongSize => 2,
+            Answer::NoEntries => 3,
+            Answer::PastTheEnd => 4,
+            Answer::SlotsTaken => 5,
+            Answer::IllegalEntry { .. } => 6,
+            Answer::SlotTaken => 7,
+            Answer::EntryHeld => 8,
+            Answer::IllegalFetch { .. } => 9,
+        }
+    }
+
+    /// The place of the first illegal entry; 0 in any other answer.
+    pub fn place(self) -> u64 {
+        match self {
+            Answer::IllegalEntry { place } => place,
+            _ => 0,
+        }
+    }
+
+    /// The steps of a run; 0 in any other answer.
+    pub fn steps(self) -> u64 {
+        match self {
+            Answer::Done { steps } | Answer::IllegalFetch { steps } => steps,
+            _ => 0,
+        }
+    }
+
+    /// The steps of a call that is done, a refusal as the error.
+    pub fn ok(self) -> Result<u64, Answer> {
+        match self {
+            Answer::Done { steps } => Ok(steps),
+            refusal => Err(refusal),
+        }
+    }
+}
+
+impl fmt::Display for Answer {
+    fn fmt(&self, f: &mut fmt::Formatter<'_>) -> fmt::Result {
+        match self {
+            Answer::Done { steps: 0 } => write!(f, "done"),
+            Answer::Done { steps } => write!(f, "done, {steps} steps"),
+            Answer::Malformed => write!(f, "the board record is damaged; make the board anew"),
+            Answer::WrongSize => write!(
+                f,
+                "a size is wrong: the board's, a memory's, the buffer number, or bytes that are no whole entries"
+            ),
+            Answer::NoEntries => write!(f, "the list has no entries"),
+            Answer::PastTheEnd => write!(f, "the span passes the end of its memory"),
+            Answer::SlotsTaken => {
+                write!(f, "two lists are waiting already; run one to its end first")
+            }
+            Answer::IllegalEntry { place } => {
+                write!(f, "entry {place} is illegal; the list was not posted")
+            }
+            Answer::SlotTaken => write!(
+                f,
+                "a list is still to be drawn; run it to its end before writing a buffer"
+            ),
+            Answer::EntryHeld => write!(
+                f,
+                "a list that is still to be drawn has one of these entries"
+            ),
+            Answer::IllegalFetch { steps } => {
+                write!(
+                    f,
+                    "an illegal entry stopped the run after {steps} steps; the list was changed since its post"
+                )
+            }
+        }
+    }
+}
+
+impl Error for Answer {}

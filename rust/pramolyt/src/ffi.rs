@@ -1,0 +1,47 @@
+//! The functions of include/pramolyt.h.
+
+use crate::Board;
+
+unsafe extern "C" {
+    pub fn pramolyt_make(board: *mut Board, width: usize, height: usize, entries: usize) -> u32;
+
+    pub fn pramolyt_post(
+        board: *mut Board,
+        place: *mut u64,
+        list: *const u8,
+        list_len: usize,
+        start: usize,
+        count: usize,
+    ) -> u32;
+
+    pub fn pramolyt_store(
+        board: *mut Board,
+        list: *mut u8,
+        list_len: usize,
+        first: usize,
+        bytes: *const u8,
+        bytes_len: usize,
+    ) -> u32;
+
+    pub fn pramolyt_window_write(
+        board: *mut Board,
+        number: usize,
+        offset: usize,
+        bytes: *const u8,
+        bytes_len: usize,
+        buffer: *mut u8,
+        buffer_len: usize,
+    ) -> u32;
+
+    pub fn pramolyt_run(
+        board: *mut Board,
+        steps: *mut u64,
+        budget: u64,
+        list: *const u8,
+        list_len: usize,
+        display: *mut u8,
+        display_len: usize,
+        virt: *mut u8,
+        virt_len: usize,
+    ) -> u32;
+}

@@ -1,0 +1,161 @@
+//! Safe access to libpramolyt.a, a drawing engine proved to do what its paper says.
+//!
+//! A [`Board`] draws display lists into two picture buffers, display and virtual, of one byte a pixel. A display list is a
+//! span of list memory; its entries are 5 bytes each, a register number and 32 bits of data. The caller owns the three
+//! memories and lends them to each call.
+//!
+//! ```
+//! use pramolyt::{Answer, Board};
+//!
+//! let (made, mut board) = Board::make(8, 4, 4);
+//! made.ok()?;
+//! let mut list = [0; 5 * 4];
+//! let (mut display, mut virt) = ([0; 8 * 4], [0; 8 * 4]);
+//!
+//! // FORE 7; CMD a solid LINE, raster code copy; XY0 (0, 0); XY1 (4, 2), which draws it.
+//! let line = [8, 0, 0, 0, 7, 0, 0x23, 0x80, 0, 0, 0x48, 0, 0, 0, 0, 0x60, 0, 4, 0, 2];
+//! board.store(&mut list, 0, &line).ok()?;
+//! board.post(&list, 0, 4).ok()?;
+//! assert_eq!(board.run(1_000, &list, &mut display, &mut virt), Answer::Done { steps: 9 });
+//! assert_eq!(display[8..16], [0, 0, 7, 7, 0, 0, 0, 0]);
+//! # Ok::<(), Answer>(())
+//! ```
+#![deny(missing_docs)]
+
+#[cfg(not(all(target_arch = "x86_64", target_pointer_width = "64")))]
+compile_error!("libpramolyt.a is for x86-64");
+
+mod answer;
+mod ffi;
+#[cfg(test)]
+mod tests;
+
+pub use answer::Answer;
+
+/// The number of the display buffer.
+pub const DISPLAY: usize = 0;
+/// The number of the virtual buffer.
+pub const VIRTUAL: usize = 1;
+
+/// The words of a board record.
+pub const WORDS: usize = 28;
+
+/// A board: its sizes, the lists posted to it, the command under way, the registers.
+///
+/// Every call takes every number and memories of every length; what does not fit is refused.
+#[derive(Clone, Debug, PartialEq, Eq)]
+#[repr(C)]
+pub struct Board {
+    words: [u32; WORDS],
+}
+
+impl Board {
+    /// A fresh board. Width and height are 1 to 2,048, entries 1 to 4,096; with other sizes the answer is
+    /// [`Answer::WrongSize`] and the board is the 1 by 1 board with 1 entry.
+    pub fn make(width: usize, height: usize, entries: usize) -> (Answer, Board) {
+        let mut board = Board::from_words([u32::MAX; WORDS]);
+        // SAFETY: the library writes the 28 words of the record and nothing else.
+        let number = unsafe { ffi::pramolyt_make(&mut board, width, height, entries) };
+        (Answer::heard(number, 0, 0), board)
+    }
+
+    /// The board with these words, as [`Board::words`] gave them. Any words will do: a record that no calls lead to is
+    /// refused by each call as [`Answer::Malformed`].
+    pub fn from_words(words: [u32; WORDS]) -> Board {
+        Board { words }
+    }
+
+    /// The words of the record, in the order of the C header's struct.
+    pub fn words(&self) -> [u32; WORDS] {
+        self.words
+    }
+
+    /// Pixels in a row of a buffer.
+    pub fn width(&self) -> usize {
+        self.words[0] as usize
+    }
+
+    /// Rows of a buffer.
+    pub fn height(&self) -> usize {
+        self.words[1] as usize
+    }
+
+    /// Entries of list memory, of 5 bytes each.
+    pub fn entries(&self) -> usize {
+        self.words[2] as usize
+    }
+
+    /// Whether no list is left to be drawn.
+    pub fn is_idle(&self) -> bool {
+        self.words[3] == 0
+    }
+
+    /// Posts the list of `count` entries from entry `start` on. Two lists can wait at a time.
+    pub fn post(&mut self, list: &[u8], start: usize, count: usize) -> Answer {
+        let mut place = u64::MAX;
+        // SAFETY: pointers and lengths are those of live, borrowed memory; board, place and list do not overlap.
+        let number = unsafe {
+            ffi::pramolyt_post(self, &mut place, list.as_ptr(), list.len(), start, count)
+        };
+        Answer::heard(number, place, 0)
+    }
+
+    /// Stores bytes, 5 an entry, into list memory from entry `first` on.
+    pub fn store(&mut self, list: &mut [u8], first: usize, bytes: &[u8]) -> Answer {
+        // SAFETY: as in post; list is borrowed alone, so bytes do not overlap it.
+        let number = unsafe {
+            ffi::pramolyt_store(
+                self,
+                list.as_mut_ptr(),
+                list.len(),
+                first,
+                bytes.as_ptr(),
+                bytes.len(),
+            )
+        };
+        Answer::heard(number, 0, 0)
+    }
+
+    /// Writes bytes into a buffer from `offset` on. `number` is [`DISPLAY`] or [`VIRTUAL`], and `buffer` that buffer.
+    pub fn window_write(
+        &mut self,
+        number: usize,
+        offset: usize,
+        bytes: &[u8],
+        buffer: &mut [u8],
+    ) -> Answer {
+        // SAFETY: as in store.
+        let number = unsafe {
+            ffi::pramolyt_window_write(
+                self,
+                number,
+                offset,
+                bytes.as_ptr(),
+                bytes.len(),
+                buffer.as_mut_ptr(),
+                buffer.len(),
+            )
+        };
+        Answer::heard(number, 0, 0)
+    }
+
+    /// Draws the posted lists for at most `budget` steps; a step is an entry fetched or a pixel visited.
+    pub fn run(&mut self, budget: u64, list: &[u8], display: &mut [u8], virt: &mut [u8]) -> Answer {
+        let mut steps = u64::MAX;
+        // SAFETY: as in store; both buffers are borrowed alone.
+        let number = unsafe {
+            ffi::pramolyt_run(
+                self,
+                &mut steps,
+                budget,
+                list.as_ptr(),
+                list.len(),
+                display.as_mut_ptr(),
+                display.len(),
+                virt.as_mut_ptr(),
+                virt.len(),
+            )
+        };
+        Answer::heard(number, 0, steps)
+    }
+}

@@ -1,0 +1,172 @@
+//! Makes a sequence of calls, written as text on standard input, one call a line:
+//!
+//! ```text
+//! make WIDTH HEIGHT ENTRIES
+//! store FIRST HEXBYTES...
+//! post START COUNT
+//! write NUMBER OFFSET HEXBYTES...
+//! run BUDGET
+//! ```
+//!
+//! The first call is make. It begins a fresh board with zeroed memories of the right
+//! sizes, and so does every later make; a refused make begins the 1 by 1 board with
+//! 1 entry. NUMBER is 0 for the display buffer and 1 for the virtual buffer. Numbers
+//! are decimal, or hexadecimal after 0x, below 2^64. HEXBYTES are pairs of
+//! hexadecimal digits, with or without blanks between the pairs; there may be none.
+//! Blank lines and lines starting with # are skipped.
+//!
+//! Each call prints its line number, its name, the answer, the place and the steps.
+//! The end prints the record, a field a line, both pictures in rows of hexadecimal
+//! bytes, and whether the paper board agreed after every call; status 1 where it did
+//! not. A bad line ends the sequence with a message on standard
+//! error and status 2.
+
+use reference::text::hex_rows;
+use reference::{Heard, Sequence, NAMES};
+use std::io::{Read, Write};
+use std::process::ExitCode;
+
+fn main() -> ExitCode {
+    let mut input = Vec::new();
+    if let Err(error) = std::io::stdin().read_to_end(&mut input) {
+        eprintln!("standard input: {error}");
+        return ExitCode::from(2);
+    }
+    let (report, status) = match make_calls(&String::from_utf8_lossy(&input)) {
+        Ok((report, agrees)) => (report, u8::from(!agrees)),
+        Err((report, message)) => {
+            eprintln!("{message}");
+            (report, 2)
+        }
+    };
+    match std::io::stdout().write_all(report.as_bytes()) {
+        Ok(()) => ExitCode::from(status),
+        Err(_) => ExitCode::from(2),
+    }
+}
+
+/// The report and whether the paper board agrees; in the error, the report as far as
+/// it goes and the message.
+fn make_calls(input: &str) -> Result<(String, bool), (String, String)> {
+    let mut report = String::new();
+    let mut sequence: Option<Sequence> = None;
+    let mut fault = None;
+    for (index, line) in input.lines().enumerate() {
+        let words: Vec<&str> = line.split_whitespace().collect();
+        if words.is_empty() || words[0].starts_with('#') {
+            continue;
+        }
+        let number = index + 1;
+        match make_call(&words, &mut sequence) {
+            Ok(heard) => report.push_str(&outcome(number, words[0], heard)),
+            Err(message) => return Err((report, format!("line {number}: {message}"))),
+        }
+        let found = sequence.as_ref().and_then(Sequence::fault);
+        fault = fault.or_else(|| found.map(|found| format!("line {number}: {found}")));
+    }
+    let Some(sequence) = sequence else {
+        return Err((report, "the input has no call".to_string()));
+    };
+    report.push_str(&ending(&sequence));
+    match &fault {
+        None => report.push_str("paper board agrees\n"),
+        Some(fault) => report.push_str(&format!("paper board disagrees: {fault}\n")),
+    }
+    Ok((report, fault.is_none()))
+}
+
+/// Makes the call of one line.
+fn make_call(words: &[&str], sequence: &mut Option<Sequence>) -> Result<Heard, String> {
+    let (call, arguments) = (words[0], &words[1..]);
+    if call == "make" {
+        let ([width, height, entries], []) = numbers(call, arguments)? else {
+            return Err("make takes three numbers: width, height, entries".to_string());
+        };
+        let (heard, made) = Sequence::make(width, height, entries);
+        *sequence = Some(made);
+        return Ok(heard);
+    }
+    if !["store", "post", "write", "run"].contains(&call) {
+        return Err(format!("no call is named {call:?}"));
+    }
+    let board = sequence.as_mut().ok_or("the first call is make")?;
+    match call {
+        "store" => {
+            let ([first], bytes) = numbers(call, arguments)?;
+            Ok(board.store(first, &hex_bytes(bytes)?))
+        }
+        "write" => {
+            let ([number, offset], bytes) = numbers(call, arguments)?;
+            Ok(board.window_write(number, offset, &hex_bytes(bytes)?))
+        }
+        "post" => {
+            let ([start, count], []) = numbers(call, arguments)? else {
+                return Err("post takes two numbers: start, count".to_string());
+            };
+            Ok(board.post(start, count))
+        }
+        _ => {
+            let ([budget], []) = numbers(call, arguments)? else {
+                return Err("run takes one number: budget".to_string());
+            };
+            Ok(board.run(budget))
+        }
+    }
+}
+
+/// The first N arguments as numbers, and the arguments after them.
+fn numbers<'a, const N: usize>(
+    call: &str,
+    arguments: &'a [&'a str],
+) -> Result<([u64; N], &'a [&'a str]), String> {
+    if arguments.len() < N {
+        return Err(format!("{call} takes {N} numbers first"));
+    }
+    let mut values = [0; N];
+    for (value, argument) in values.iter_mut().zip(arguments) {
+        let parsed = match argument.strip_prefix("0x") {
+            Some(digits) => u64::from_str_radix(digits, 16),
+            None => argument.parse(),
+        };
+        *value = parsed.map_err(|_| format!("{argument:?} is no number below 2^64"))?;
+    }
+    Ok((values, &arguments[N..]))
+}
+
+/// Pairs of hexadecimal digits as bytes.
+fn hex_bytes(arguments: &[&str]) -> Result<Vec<u8>, String> {
+    let mut bytes = Vec::new();
+    for argument in arguments {
+        let bad = || format!("{argument:?} is not pairs of hexadecimal digits");
+        let digits: Option<Vec<u32>> = argument.chars().map(|c| c.to_digit(16)).collect();
+        let digits = digits.ok_or_else(bad)?;
+        if !digits.len().is_multiple_of(2) {
+            return Err(bad());
+        }
+        bytes.extend(digits.chunks(2).map(|pair| (16 * pair[0] + pair[1]) as u8));
+    }
+    Ok(bytes)
+}
+
+fn outcome(line: usize, call: &str, heard: Heard) -> String {
+    let Heard {
+        number,
+        place,
+        steps,
+    } = heard;
+    format!("{line} {call} answer {number} place {place} steps {steps}\n")
+}
+
+/// The record and both pictures.
+fn ending(sequence: &Sequence) -> String {
+    let record = &sequence.record;
+    let mut text = "record\n".to_string();
+    for (name, word) in NAMES.iter().zip(record.words()) {
+        text.push_str(&format!("{name} {word}\n"));
+    }
+    text.push_str("display\n");
+    text.push_str(&hex_rows(&sequence.display, record.width));
+    text.push_str("virtual\n");
+    text.push_str(&hex_rows(&sequence.virt, record.width));
+    text
+}

@@ -1,0 +1,215 @@
+//! "Pixels": what the visit of one pixel does to the buffers and to the pattern
+//! state. "Coordinates are plain whole numbers and never wrap at 16 bits."
+
+use crate::entries::{flag, opcode, pattern_control, register};
+use crate::state::State;
+
+/// A pixel's place, anywhere in the plane.
+#[derive(Clone, Copy, PartialEq, Eq, Debug)]
+pub struct Point {
+    pub x: i64,
+    pub y: i64,
+}
+
+/// "x in the high half, y in the low half (000), each two's complement".
+pub fn point(word: u32) -> Point {
+    Point {
+        x: i64::from((word >> 16) as u16 as i16),
+        y: i64::from(word as u16 as i16),
+    }
+}
+
+/// The two buffers lent for drawing, "each exactly width x height bytes": 0 the
+/// display buffer, 1 the virtual buffer.
+pub struct Buffers<'a> {
+    pub width: u32,
+    pub height: u32,
+    pub pixels: [&'a mut [u8]; 2],
+}
+
+impl Buffers<'_> {
+    /// "pixel (x, y) at y x width + x"; none outside the buffer.
+    fn index(&self, p: Point) -> Option<usize> {
+        let (width, height) = (i64::from(self.width), i64::from(self.height));
+        let inside = 0 <= p.x && p.x < width && 0 <= p.y && p.y < height;
+        inside.then(|| (p.y * width + p.x) as usize)
+    }
+}
+
+/// "Raster: the new bit is bit 3 - 2s - d of the code, s source bit, d old bit.
+/// Where the MASK bit is 0 the old bit stays."
+pub fn raster(code: u32, mask: u8, source: u8, old: u8) -> u8 {
+    let mut new = 0;
+    for bit in 0..8 {
+        let s = u32::from(source >> bit & 1);
+        let d = u32::from(old >> bit & 1);
+        let masked_in = mask >> bit & 1 == 1;
+        let new_bit = if masked_in {
+            code >> (3 - 2 * s - d) & 1
+        } else {
+            d
+        };
+        new |= (new_bit as u8) << bit;
+    }
+    new
+}
+
+/// "n = max(|dx|, |dy|)".
+pub fn line_length(a: Point, b: Point) -> i64 {
+    (b.x - a.x).abs().max((b.y - a.y).abs())
+}
+
+/// "n + 1 pixels, one at each major coordinate, x being major where |dx| >= |dy|":
+/// the pixel numbered i of the line from A to B.
+pub fn line_pixel(a: Point, b: Point, i: i64) -> Point {
+    let n = line_length(a, b);
+    let (dx, dy) = (b.x - a.x, b.y - a.y);
+    if dx.abs() >= dy.abs() {
+        Point {
+            x: a.x + i * dx.signum(),
+            y: minor_coordinate(n, a.y, dy, i),
+        }
+    } else {
+        Point {
+            x: minor_coordinate(n, a.x, dx, i),
+            y: a.y + i * dy.signum(),
+        }
+    }
+}
+
+/// "let E = n x (A's minor) + i x (signed minor difference) at pixel i; v satisfies
+/// -n <= 2(nv - E) < n; where n = 0 v is A's."
+///
+/// The left inequality is v >= (2E - n) / 2n and the right one v < (2E - n) / 2n + 1,
+/// so v is that quotient rounded up. Rounding up p / q is rounding down
+/// (p + q - 1) / q, here (2E + n - 1) / 2n.
+fn minor_coordinate(n: i64, a: i64, difference: i64, i: i64) -> i64 {
+    if n == 0 {
+        return a;
+    }
+    let e = n * a + i * difference;
+    (2 * e + n - 1).div_euclid(2 * n)
+}
+
+impl State {
+    /// Draws the pixel numbered i of the command in CMD.
+    pub(crate) fn draw(&mut self, i: u32, buffers: &mut Buffers) {
+        match self.command().opcode() {
+            opcode::BITBLT => self.draw_blit_pixel(i, buffers),
+            opcode::LINE | opcode::PLINE => self.draw_line_pixel(i, buffers),
+            _ => {}
+        }
+    }
+
+    /// "Source is FORE with SOLID, else the source buffer's pixel; a source pixel
+    /// outside its buffer, or equal to KEY with KEY set, draws nothing."
+    fn draw_blit_pixel(&self, i: u32, buffers: &mut Buffers) {
+        let command = self.command();
+        let offset = self.blit_offset(i);
+        let at = |corner: usize| {
+            let corner = point(self.registers[corner]);
+            Point {
+                x: corner.x + offset.x,
+                y: corner.y + offset.y,
+            }
+        };
+        let Some(index) = self.let_through(at(register::XY1), buffers) else {
+            return;
+        };
+        let source = if command.has(flag::SOLID) {
+            self.byte(register::FORE)
+        } else {
+            let Some(from) = buffers.index(at(register::XY0)) else {
+                return;
+            };
+            let pixel = buffers.pixels[usize::from(command.has(flag::SOURCE))][from];
+            if command.has(flag::KEY) && pixel == self.byte(register::KEY) {
+                return;
+            }
+            pixel
+        };
+        self.put(index, source, buffers);
+    }
+
+    /// "BITBLT visits width x height pixels in rows. XY3 1 and 3 go bottom to top, 2
+    /// and 3 right to left; XY0 and XY1 are the corners of 003's table": how far
+    /// pixel i lies from the corner where the command begins.
+    fn blit_offset(&self, i: u32) -> Point {
+        let width = self.registers[register::XY2] >> 16;
+        let column = i64::from(i % width);
+        let row = i64::from(i / width);
+        let direction = self.registers[register::XY3];
+        Point {
+            x: if direction & 2 == 2 { -column } else { column },
+            y: if direction & 1 == 1 { -row } else { row },
+        }
+    }
+
+    /// "Source is FORE with SOLID; else the pattern bit: 1 FORE, 0 BACK, or nothing
+    /// with TRNSP." The pattern state "moves after each pixel that clip and buffer
+    /// let through, drawn or transparent"; "SOLID lines do not move it".
+    fn draw_line_pixel(&mut self, i: u32, buffers: &mut Buffers) {
+        let command = self.command();
+        let (a, b) = self.line_ends();
+        let Some(index) = self.let_through(line_pixel(a, b, i64::from(i)), buffers) else {
+            return;
+        };
+        if command.has(flag::SOLID) {
+            self.put(index, self.byte(register::FORE), buffers);
+            return;
+        }
+        let pattern_bit = self.registers[register::LPAT] >> self.pattern_place & 1;
+        if pattern_bit == 1 {
+            self.put(index, self.byte(register::FORE), buffers);
+        } else if !command.has(flag::TRNSP) {
+            self.put(index, self.byte(register::BACK), buffers);
+        }
+        self.move_pattern();
+    }
+
+    /// "repeat + 1; at the scale, repeat 0 and place + 1; at the length, place 0."
+    fn move_pattern(&mut self) {
+        let control = pattern_control(self.registers[register::PCTRL]);
+        self.pattern_repeat += 1;
+        if self.pattern_repeat == control.scale {
+            self.pattern_repeat = 0;
+            self.pattern_place += 1;
+        }
+        if self.pattern_place == control.length {
+            self.pattern_place = 0;
+        }
+    }
+
+    /// "A pixel outside the destination buffer, or with CLIP set outside CLPTL to
+    /// CLPBR (both corners inside), is visited and not drawn. A reversed clip draws
+    /// nothing."
+    fn let_through(&self, p: Point, buffers: &Buffers) -> Option<usize> {
+        let top_left = point(self.registers[register::CLPTL]);
+        let bottom_right = point(self.registers[register::CLPBR]);
+        let in_clip = top_left.x <= p.x
+            && p.x <= bottom_right.x
+            && top_left.y <= p.y
+            && p.y <= bottom_right.y;
+        if self.command().has(flag::CLIP) && !in_clip {
+            return None;
+        }
+        buffers.index(p)
+    }
+
+    /// Combines the source with the pixel as it stands in the destination buffer.
+    fn put(&self, index: usize, source: u8, buffers: &mut Buffers) {
+        let command = self.command();
+        let pixel = &mut buffers.pixels[usize::from(command.has(flag::DESTINATION))][index];
+        *pixel = raster(
+            command.raster_code(),
+            self.byte(register::MASK),
+            source,
+            *pixel,
+        );
+    }
+
+    /// One of FORE, BACK, MASK and KEY, which are "0 to 255".
+    fn byte(&self, number: usize) -> u8 {
+        self.registers[number] as u8
+    }
+}

@@ -1,0 +1,20 @@
+//! The drawing engine of document 01, written a second time from that document
+//! alone, so that the proved engine can be compared with it.
+//!
+//! It is written to be read against the document, not to be fast: whole numbers
+//! are wide, each pixel is worked out from its own number in the command, and the
+//! comments quote the sentences that the code follows.
+
+pub mod calls;
+pub mod drawing;
+pub mod entries;
+pub mod paper;
+pub mod record;
+pub mod sequence;
+pub mod state;
+pub mod text;
+
+pub use calls::{make, post, run, store, window_write, Heard};
+pub use paper::PaperBoard;
+pub use record::{Record, NAMES};
+pub use sequence::Sequence;

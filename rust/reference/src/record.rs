@@ -1,0 +1,278 @@
+//! The board record, and when it is malformed.
+
+use crate::entries::{legal, pattern_control, register, LONGEST_SIDE, MOST_ENTRIES};
+use crate::state::State;
+
+/// "The board record has the three sizes, an active slot, a pending slot, the next
+/// entry, whether a command is under way, the visited pixels of that command, the
+/// registers, the pattern state and the last point".
+///
+/// The fields ending in `taken` and `under_way` are flags, 0 or 1. `last` is the
+/// last point as XY1's word: x in the high half, y in the low half, each two's
+/// complement.
+#[derive(Clone, Copy, PartialEq, Eq, Debug)]
+pub struct Record {
+    pub width: u32,
+    pub height: u32,
+    pub entries: u32,
+    pub active_taken: u32,
+    pub active_start: u32,
+    pub active_count: u32,
+    pub pending_taken: u32,
+    pub pending_start: u32,
+    pub pending_count: u32,
+    pub next: u32,
+    pub under_way: u32,
+    pub visited: u32,
+    pub cmd: u32,
+    pub fore: u32,
+    pub back: u32,
+    pub mask: u32,
+    pub key: u32,
+    pub lpat: u32,
+    pub pctrl: u32,
+    pub clptl: u32,
+    pub clpbr: u32,
+    pub xy0: u32,
+    pub xy2: u32,
+    pub xy3: u32,
+    pub xy1: u32,
+    pub pattern_place: u32,
+    pub pattern_repeat: u32,
+    pub last: u32,
+}
+
+/// The names of the record's fields, in the order of its words.
+pub const NAMES: [&str; 28] = [
+    "width",
+    "height",
+    "entries",
+    "active_taken",
+    "active_start",
+    "active_count",
+    "pending_taken",
+    "pending_start",
+    "pending_count",
+    "next",
+    "under_way",
+    "visited",
+    "cmd",
+    "fore",
+    "back",
+    "mask",
+    "key",
+    "lpat",
+    "pctrl",
+    "clptl",
+    "clpbr",
+    "xy0",
+    "xy2",
+    "xy3",
+    "xy1",
+    "pattern_place",
+    "pattern_repeat",
+    "last",
+];
+
+/// Where the registers begin among the words, in the order of their numbers.
+const FIRST_REGISTER: usize = 12;
+
+impl Record {
+    /// "Fresh: all registers zero but MASK 255; pattern at 0, 0; last point (0, 0);
+    /// slots empty".
+    pub fn fresh(width: u32, height: u32, entries: u32) -> Record {
+        let mut record = Record::from_words(&[0; 28]);
+        record.width = width;
+        record.height = height;
+        record.entries = entries;
+        record.set_state(&State::fresh());
+        record
+    }
+
+    /// The fields in the order of their names.
+    pub fn words(&self) -> [u32; 28] {
+        [
+            self.width,
+            self.height,
+            self.entries,
+            self.active_taken,
+            self.active_start,
+            self.active_count,
+            self.pending_taken,
+            self.pending_start,
+            self.pending_count,
+            self.next,
+            self.under_way,
+            self.visited,
+            self.cmd,
+            self.fore,
+            self.back,
+            self.mask,
+            self.key,
+            self.lpat,
+            self.pctrl,
+            self.clptl,
+            self.clpbr,
+            self.xy0,
+            self.xy2,
+            self.xy3,
+            self.xy1,
+            self.pattern_place,
+            self.pattern_repeat,
+            self.last,
+        ]
+    }
+
+    /// The record with these fields, whether well-formed or not.
+    pub fn from_words(words: &[u32; 28]) -> Record {
+        let [width, height, entries, slots @ .., pattern_place, pattern_repeat, last] = *words;
+        let [active_taken, active_start, active_count, slots @ ..] = slots;
+        let [pending_taken, pending_start, pending_count, progress @ ..] = slots;
+        let [next, under_way, visited, registers @ ..] = progress;
+        let [cmd, fore, back, mask, key, lpat, pctrl, places @ ..] = registers;
+        let [clptl, clpbr, xy0, xy2, xy3, xy1] = places;
+        #[rustfmt::skip]
+        let record = Record {
+            width, height, entries,
+            active_taken, active_start, active_count,
+            pending_taken, pending_start, pending_count,
+            next, under_way, visited,
+            cmd, fore, back, mask, key, lpat, pctrl,
+            clptl, clpbr, xy0, xy2, xy3, xy1,
+            pattern_place, pattern_repeat, last,
+        };
+        record
+    }
+
+    /// The registers in the order of their numbers.
+    pub fn registers(&self) -> [u32; register::COUNT] {
+        let words = self.words();
+        std::array::from_fn(|number| words[FIRST_REGISTER + number])
+    }
+
+    /// The part of the record that a step works on.
+    pub fn state(&self) -> State {
+        State {
+            registers: self.registers(),
+            pattern_place: self.pattern_place,
+            pattern_repeat: self.pattern_repeat,
+            last: self.last,
+            under_way: self.under_way == 1,
+            visited: self.visited,
+        }
+    }
+
+    /// Takes that part back after a step.
+    pub fn set_state(&mut self, state: &State) {
+        let mut words = self.words();
+        words[FIRST_REGISTER..][..register::COUNT].copy_from_slice(&state.registers);
+        *self = Record {
+            pattern_place: state.pattern_place,
+            pattern_repeat: state.pattern_repeat,
+            last: state.last,
+            under_way: u32::from(state.under_way),
+            visited: state.visited,
+            ..Record::from_words(&words)
+        };
+    }
+
+    /// The clauses of "A record is malformed when" that hold of this record; it is
+    /// well-formed where there are none.
+    pub fn faults(&self) -> Vec<&'static str> {
+        let pattern = pattern_control(self.pctrl);
+        let place_past = self.pattern_place >= pattern.length;
+        let repeat_past = self.pattern_repeat >= pattern.scale;
+        let no_active = self.active_taken == 0;
+        let spans = self.taken_spans();
+        let end = u64::from(self.entries);
+        let empty = spans.iter().any(|span| span.1 == 0);
+        let passes = spans.iter().any(|span| span.0 + span.1 > end);
+        let visited_all = u64::from(self.visited) >= self.state().pixel_count();
+        let (pending, under_way) = (self.pending_taken == 1, self.under_way == 1);
+        #[rustfmt::skip]
+        let clauses = [
+            ("a flag is neither 0 nor 1", !self.flags_legal()),
+            ("a size is outside its limits", !self.sizes_legal()),
+            ("a register holds an illegal value", !self.registers_legal()),
+            ("the pattern's place is not below the length", place_past),
+            ("the pattern's repeat is not below the scale", repeat_past),
+            ("a field that must be zero is not", !self.zeros_kept()),
+            ("pending is taken without active", pending && no_active),
+            ("a command is under way without active", under_way && no_active),
+            ("a taken slot's span is empty", empty),
+            ("a taken slot's span passes the memory", passes),
+            ("the next entry is outside the active list", !self.next_in_active()),
+            ("the visited pixels are not below the command's count", under_way && visited_all),
+        ];
+        clauses.iter().filter(|c| c.1).map(|c| c.0).collect()
+    }
+
+    /// Whether the answer to every call is 1, "record malformed".
+    pub fn malformed(&self) -> bool {
+        !self.faults().is_empty()
+    }
+
+    /// Flags are fields of their own, apart from the spans: 0 or 1.
+    fn flags_legal(&self) -> bool {
+        self.active_taken <= 1 && self.pending_taken <= 1 && self.under_way <= 1
+    }
+
+    /// "Width and height are 1 to 2,048; entries 1 to 4,096."
+    fn sizes_legal(&self) -> bool {
+        sizes_legal(self.width.into(), self.height.into(), self.entries.into())
+    }
+
+    /// "a register holds a value illegal below".
+    fn registers_legal(&self) -> bool {
+        let registers = self.registers();
+        (0..register::COUNT).all(|number| legal(number, registers[number]))
+    }
+
+    /// "A slot not taken, the next entry of an idle board and the visited pixels
+    /// with no command under way are all zero."
+    fn zeros_kept(&self) -> bool {
+        let zero_unless = |flag: u32, field: u32| flag != 0 || field == 0;
+        zero_unless(self.active_taken, self.active_start)
+            && zero_unless(self.active_taken, self.active_count)
+            && zero_unless(self.active_taken, self.next)
+            && zero_unless(self.pending_taken, self.pending_start)
+            && zero_unless(self.pending_taken, self.pending_count)
+            && zero_unless(self.under_way, self.visited)
+    }
+
+    /// The spans (start, count) of the taken slots, the active one first.
+    pub fn taken_spans(&self) -> Vec<(u64, u64)> {
+        let slots = [
+            (self.active_taken, self.active_start, self.active_count),
+            (self.pending_taken, self.pending_start, self.pending_count),
+        ];
+        let taken = slots.into_iter().filter(|slot| slot.0 == 1);
+        let span = |(_, start, count): (u32, u32, u32)| (start.into(), count.into());
+        taken.map(span).collect()
+    }
+
+    /// "the next entry is outside the active list (with pixels still to visit it may
+    /// be the list's end, and is past its start)". With no active list, that it is
+    /// zero is another clause.
+    fn next_in_active(&self) -> bool {
+        if self.active_taken != 1 {
+            return true;
+        }
+        let next = u64::from(self.next);
+        let start = u64::from(self.active_start);
+        let end = start + u64::from(self.active_count);
+        if self.under_way == 1 {
+            start < next && next <= end
+        } else {
+            start <= next && next < end
+        }
+    }
+}
+
+/// "Width and height are 1 to 2,048; entries 1 to 4,096."
+pub fn sizes_legal(width: u64, height: u64, entries: u64) -> bool {
+    let side = 1..=u64::from(LONGEST_SIDE);
+    side.contains(&width)
+        && side.contains(&height)
+        && (1..=u64::from(MOST_ENTRIES)).contains(&entries)
+}

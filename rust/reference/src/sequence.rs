@@ -1,0 +1,106 @@
+//! A board, the memories lent to it and the paper board beside it: the calls of a
+//! sequence, each held against the claim of demand 3.
+
+use crate::calls::{self, Heard};
+use crate::paper::PaperBoard;
+use crate::record::Record;
+
+pub struct Sequence {
+    pub record: Record,
+    pub list: Vec<u8>,
+    pub display: Vec<u8>,
+    pub virt: Vec<u8>,
+    pub paper: PaperBoard,
+    fault: Option<String>,
+}
+
+impl Sequence {
+    /// A fresh board, whether make was done or refused, with zeroed memories of its
+    /// sizes.
+    pub fn make(width: u64, height: u64, entries: u64) -> (Heard, Sequence) {
+        let (heard, record) = calls::make(width, height, entries);
+        let pixels = record.width as usize * record.height as usize;
+        let list = vec![0; 5 * record.entries as usize];
+        let buffer = vec![0; pixels];
+        let paper = PaperBoard::new(
+            record.width.into(),
+            record.height.into(),
+            list.clone(),
+            buffer.clone(),
+            buffer.clone(),
+        );
+        let sequence = Sequence {
+            record,
+            list,
+            display: buffer.clone(),
+            virt: buffer,
+            paper,
+            fault: None,
+        };
+        (heard, sequence)
+    }
+
+    pub fn post(&mut self, start: u64, count: u64) -> Heard {
+        let heard = calls::post(&mut self.record, &self.list, start, count);
+        self.paper.post(start, count, heard.number == 0);
+        self.check(heard)
+    }
+
+    pub fn store(&mut self, first: u64, bytes: &[u8]) -> Heard {
+        let heard = calls::store(&mut self.record, &mut self.list, first, bytes);
+        self.paper.store(first, bytes, heard.number == 0);
+        self.check(heard)
+    }
+
+    pub fn window_write(&mut self, number: u64, offset: u64, bytes: &[u8]) -> Heard {
+        let buffer = if number == 1 {
+            &mut self.virt
+        } else {
+            &mut self.display
+        };
+        let heard = calls::window_write(&mut self.record, number, offset, bytes, buffer);
+        self.paper
+            .window_write(number, offset, bytes, heard.number == 0);
+        self.check(heard)
+    }
+
+    /// "A run that answers 0 reports the lesser of its budget and the steps that
+    /// would empty the queue."
+    pub fn run(&mut self, budget: u64) -> Heard {
+        let lesser = budget.min(self.paper.steps_to_empty());
+        let (display, virt) = (&mut self.display, &mut self.virt);
+        let heard = calls::run(&mut self.record, budget, &self.list, display, virt);
+        if heard.number == 0 && heard.steps != lesser {
+            self.note(format!("{} steps, not {lesser}", heard.steps));
+        }
+        let taken = self.paper.run(heard.steps);
+        if taken != heard.steps {
+            self.note(format!("the paper board has only {taken} steps"));
+        }
+        self.check(heard)
+    }
+
+    /// The first way in which the claim of demand 3 failed, if it did.
+    pub fn fault(&self) -> Option<&str> {
+        self.fault.as_deref()
+    }
+
+    /// "no call finds the board record malformed, and no run answers 9".
+    fn check(&mut self, heard: Heard) -> Heard {
+        if heard.number == 1 || heard.number == 9 {
+            self.note(format!("answer {}", heard.number));
+        }
+        let record = &self.record;
+        let difference = self
+            .paper
+            .difference(record, &self.list, &self.display, &self.virt);
+        if let Some(part) = difference {
+            self.note(format!("{part} differ"));
+        }
+        heard
+    }
+
+    fn note(&mut self, fault: String) {
+        self.fault.get_or_insert(fault);
+    }
+}

@@ -1,0 +1,166 @@
+//! The claim of demand 3 over random sequences of calls, and that no call panics.
+
+use crate::common::*;
+use reference::{make, post, run, store, window_write, Record, Sequence};
+
+/// A small generator of numbers (xorshift).
+struct Random(u64);
+
+impl Random {
+    fn below(&mut self, limit: u64) -> u64 {
+        self.0 ^= self.0 << 13;
+        self.0 ^= self.0 >> 7;
+        self.0 ^= self.0 << 17;
+        (self.0 >> 11) % limit
+    }
+
+    fn pick<T: Copy>(&mut self, from: &[T]) -> T {
+        from[self.below(from.len() as u64) as usize]
+    }
+
+    fn word(&mut self) -> u32 {
+        self.below(1 << 32) as u32
+    }
+
+    /// A number of any size, most of them small or near a limit.
+    fn wide(&mut self) -> u64 {
+        let small = self.below(20);
+        self.pick(&[small, 32, 80, 4_096, 1 << 32, 1 << 62, u64::MAX])
+    }
+
+    /// An entry, most often legal, with coordinates on or near the board.
+    fn entry(&mut self) -> [u8; 5] {
+        let near = xy(self.below(14) as i32 - 3, self.below(10) as i32 - 3);
+        let commands = [0x1000_0000, 0x2020_0000, 0x2080_0000, 0x5020_0000];
+        let flags = [0, TRNSP, KEYED, NLST, PRST, CLIP, FROM_VIRTUAL, TO_VIRTUAL];
+        let raster = self.word() & 0x0F00_0000;
+        let command = self.pick(&commands) | self.pick(&flags) | self.pick(&flags) | raster;
+        let byte = self.below(256) as u32;
+        let size = xy(self.below(6) as i32, self.below(6) as i32);
+        let control = self.pick(&[0, 0x2123, 0x0203, 0x1F00, 0xE5, 0x44]);
+        let noise = self.word();
+        let byte_register = self.pick(&[FORE, BACK, MASK, KEY]);
+        let near_register = self.pick(&[XY0, XY1, XY1, XY1, CLPTL, CLPBR]);
+        let (register, data) = self.pick(&[
+            (CMD, command),
+            (CMD, command),
+            (CMD, 0),
+            (byte_register, byte),
+            (MASK, 255),
+            (LPAT, noise),
+            (PCTRL, control),
+            (near_register, near),
+            (near_register, near),
+            (XY2, size),
+            (XY3, byte & 3),
+        ]);
+        entry(register, data)
+    }
+}
+
+/// One random call; whether it was done.
+fn call(random: &mut Random, board: &mut Sequence) -> bool {
+    let heard = match random.below(8) {
+        0 | 1 => {
+            let count = random.below(4) as usize;
+            let bytes: Vec<u8> = (0..count).flat_map(|_| random.entry()).collect();
+            board.store(random.below(17), &bytes)
+        }
+        2 => {
+            let bytes: Vec<u8> = (0..random.below(9)).map(|byte| byte as u8).collect();
+            board.window_write(random.below(3), random.below(36), &bytes)
+        }
+        3 | 4 => board.post(random.below(15), random.below(5)),
+        _ => {
+            let budget = random.below(40);
+            board.run(budget)
+        }
+    };
+    heard.number == 0
+}
+
+#[test]
+fn random_sequences_agree_with_the_paper_board() {
+    let mut random = Random(0x1234_5678_9ABC_DEF1);
+    let (mut done, mut calls) = (0, 0);
+    for _ in 0..400 {
+        let mut board = board(8, 4, 16);
+        for _ in 0..200 {
+            calls += 1;
+            done += u32::from(call(&mut random, &mut board));
+            assert_eq!(board.fault(), None);
+        }
+    }
+    assert!(done > calls / 2, "{done} of {calls} calls were done");
+}
+
+/// A budget cut into pieces gives the picture and the record of the whole.
+#[test]
+fn runs_in_pieces() {
+    let mut random = Random(0x0F1E_2D3C_4B5A_6978);
+    for _ in 0..300 {
+        let list: Vec<u8> = (0..16).flat_map(|_| random.entry()).collect();
+        let mut boards = [board(8, 4, 16), board(8, 4, 16)];
+        for board in &mut boards {
+            board.store(0, &list);
+            board.post(0, 16);
+        }
+        let [whole, pieces] = &mut boards;
+        let mut left = whole.run(150).steps;
+        while left > 0 {
+            left -= pieces.run(left.min(1 + random.below(20))).steps;
+        }
+        assert_eq!(whole.record, pieces.record);
+        assert_eq!(
+            (&whole.display, &whole.virt),
+            (&pieces.display, &pieces.virt)
+        );
+    }
+}
+
+/// Records, arguments and memories of any value: every call answers.
+#[test]
+fn no_call_panics() {
+    let mut random = Random(0xFEDC_BA98_7654_3211);
+    for _ in 0..20_000 {
+        let mut record = any_record(&mut random);
+        let sizes = [0, 5, 32, 80, 81];
+        let mut list: Vec<u8> = (0..16).flat_map(|_| random.entry()).collect();
+        list.resize(random.pick(&sizes), 0xFF);
+        let mut display = vec![1; random.pick(&sizes)];
+        let mut virt = vec![1; display.len()];
+        let bytes = vec![0; random.below(12) as usize];
+        let (first, second) = (random.wide(), random.wide());
+        make(first, second, random.wide());
+        post(&mut record, &list, first, second);
+        store(&mut record, &mut list, first, &bytes);
+        window_write(&mut record, random.below(3), first, &bytes, &mut display);
+        run(
+            &mut record,
+            first.min(9_999),
+            &list,
+            &mut display,
+            &mut virt,
+        );
+    }
+}
+
+/// A board at work with a few of its words changed to any value.
+fn any_record(random: &mut Random) -> Record {
+    let (mut record, list) = busy();
+    post(&mut record, &list, 1, 2);
+    let mut display = [0; 32];
+    run(
+        &mut record,
+        random.below(20),
+        &list,
+        &mut display,
+        &mut [0; 32],
+    );
+    let mut words = record.words();
+    for _ in 0..random.below(4) {
+        let (at, small, any) = (random.below(28) as usize, random.below(9), random.word());
+        words[at] = random.pick(&[small as u32, any, u32::MAX, 0x2380_0000]);
+    }
+    Record::from_words(&words)
+}
