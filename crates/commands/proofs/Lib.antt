@@ -3,4 +3,6 @@ pub mod Marks
 pub mod Bounds
 pub mod Triggers
 pub mod Visits
+pub mod Blits
+pub mod Leaping
 pub mod Examples

@@ -1,4 +1,5 @@
 pub mod Visits
 pub mod Sources
 pub mod Steps
+pub mod Leaps
 pub mod Examples

@@ -5,7 +5,10 @@ ghost use lib.ListN.{getD};
 ghost use Rattle.raster.specs.Raster.{newByte};
 ghost use Rattle.commands.specs.Visits.{isLine, lineStart, countOf, visitAt, targetOf};
 ghost use Rattle.commands.specs.Sources.{copiedOf, dashOf, sourceOf};
-ghost use Rattle.commands.specs.Steps.{scene, freshEngine, inked, patternAfter, advancedOf, visitOf, visitsOf, patternSet, triggeredOf, takenOf};
+ghost use Rattle.commands.specs.Steps.{scene, freshEngine, inked, patternAfter, advancedOf, visitOf, patternSet, triggeredOf, takenOf};
+
+mod leaps;
+
 use entries::Command;
 use entries::Entry;
 use entries::command_of;
@@ -260,26 +263,6 @@ impl Engine {
             self.ink(source, place, display);
         }
         after
-    }
-
-    // n pixels visited. The fast forms of whole rows and lines belong here.
-    pub fn visit_many(
-        self,
-        n: usize,
-        width: u32,
-        height: u32,
-        display: &mut [u8],
-        virt: &mut [u8],
-    ) -> Engine
-        ensures { λ r. ⌜ scene r (now (display .exit)) (now (virt .exit)) ≡ visitsOf n width height (scene self (now (display .entry)) (now (virt .entry))) ⌝ }
-    {
-        let mut e = self;
-        let mut k: usize = 0;
-        while k < n {
-            e = e.visit(width, height, display, virt);
-            k += 1;
-        }
-        e
     }
 
     // The pattern state once an entry is written.

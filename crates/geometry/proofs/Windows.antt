@@ -56,13 +56,13 @@ shown-by w p s =
     (both (both (le-leb (w .left) (p .x) (s .from-left)) (lt-ltb (p .x) (w .right) (s .to-right))) (le-leb (w .top) (p .y) (s .from-top)))
     (lt-ltb (p .y) (w .bottom) (s .to-bottom))
 
-buffer-of : (width height : ℕ) (p : Point) → inBuffer width height p ≡ true
+pub buffer-of : (width height : ℕ) (p : Point) → inBuffer width height p ≡ true
     → (origin ≤ p .x) × (origin ≤ p .y) × (p .x - origin < width) × (p .y - origin < height)
 buffer-of width height p h =
     let t = four (leb origin (p .x)) (leb origin (p .y)) (ltb (p .x - origin) width) (ltb (p .y - origin) height) h in
     (leb-true origin (p .x) (t .0), leb-true origin (p .y) (t .1), ltb-true (p .x - origin) width (t .2), ltb-true (p .y - origin) height (t .3))
 
-buffer-by : (width height : ℕ) (p : Point) → origin ≤ p .x → origin ≤ p .y → p .x - origin < width → p .y - origin < height
+pub buffer-by : (width height : ℕ) (p : Point) → origin ≤ p .x → origin ≤ p .y → p .x - origin < width → p .y - origin < height
     → inBuffer width height p ≡ true
 buffer-by width height p a b c d =
     both (both (both (le-leb origin (p .x) a) (le-leb origin (p .y) b)) (lt-ltb (p .x - origin) width c)) (lt-ltb (p .y - origin) height d)

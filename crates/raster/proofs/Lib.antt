@@ -2,3 +2,4 @@ pub mod Bits
 pub mod Rule
 pub mod Normal
 pub mod Examples
+pub mod Wide

@@ -1,0 +1,8 @@
+pub mod Turns
+pub mod Spans
+pub mod Rowwise
+pub mod Drawn
+pub mod Bounds
+pub mod Painted
+pub mod Rooms
+pub mod Loops

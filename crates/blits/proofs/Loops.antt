@@ -1,0 +1,120 @@
+-- Visits row after row.
+-- Assumes nothing.
+use mathlib.Core.Path.{_≡_, refl, ap, sym, _∙_}
+use mathlib.Core.Bool.{Bool, true, false, cond, _&&_}
+use mathlib.Core.List.{List}
+use Prim.Native.Nat.{ℕ, zero, suc, _+_, _-_, _*_, _/_, _%_, _≤_, _<_, min}
+use native.Mathlib.Nat.{add-assoc, mul-add, mul-one, mul-le-mul-left, div-add-mod, mod-lt}
+use native.Mathlib.Omega.{arith}
+use borrow.Author.Tests.{leb-true, leb-false, eqb-true}
+use lib.Dec.{leb, eqb}
+use lib.ListN.{length}
+use Rattle.lemmas.proofs.Booleans.{by-cases, and-left, and-right}
+use Rattle.geometry.specs.Blit.{widthOf, heightOf, blitCount}
+use Rattle.geometry.proofs.Blits.{factor-pos}
+use Rattle.blits.specs.Blits.{inTurn, visited, windowInside, blitFits, blitted, RowFits}
+use Rattle.blits.specs.declared.Blit.{Blit}
+use Rattle.blits.proofs.Turns.{turn-none, turn-join, turn-agree}
+
+pub record Fitting (b : Blit) (first n other own : ℕ) : Type 0 where
+  pub own-area : own ≡ b .width * b .height
+  pub other-area : other ≡ b .width * b .height
+  pub inside : windowInside (b .width) (b .height) (b .window) ≡ true
+  pub visits : first + n ≤ blitCount (b .size)
+
+pub fitting-of : (b : Blit) (first n other own : ℕ) → blitFits b first n other own ≡ true → Fitting b first n other own
+fitting-of b first n other own h =
+    let p = eqb own (b .width * b .height) in
+    let q = eqb other (b .width * b .height) in
+    let r = windowInside (b .width) (b .height) (b .window) in
+    let s = leb (first + n) (blitCount (b .size)) in
+    let three = and-left (p && q && r) s h in
+    let two = and-left (p && q) r three in
+    record {
+      own-area = eqb-true own (b .width * b .height) (and-left p q two);
+      other-area = eqb-true other (b .width * b .height) (and-right p q two);
+      inside = and-right (p && q) r three;
+      visits = leb-true (first + n) (blitCount (b .size)) (and-right (p && q && r) s h);
+    }
+
+-- a blit with visits has columns
+pub across-some : (b : Blit) (first n other own : ℕ) → Fitting b first n other own → 0 < n → 0 < widthOf (b .size)
+across-some b first n other own f some = factor-pos (widthOf (b .size)) (heightOf (b .size)) first (omega (arith, f .visits, some))
+
+-- where a visit stands
+pub record Stands (w first k row column : ℕ) : Type 0 where
+  pub here : first + k ≡ w * row + column
+  pub short : column < w
+
+pub stands-first : (w first : ℕ) → 0 < w → Stands w first 0 (first / w) (first % w)
+stands-first w first h =
+    record { here = (let e : first + 0 ≡ first = omega arith in e) ∙ sym (div-add-mod first w); short = mod-lt first h }
+
+pub stands-next : (w first n k row column m : ℕ) → m ≡ min (n - k) (w - column) → k + m < n → Stands w first k row column
+    → Stands w first (k + m) (row + 1) 0
+stands-next w first n k row column m e h s =
+    let rest : m ≡ w - column = whole n k w column m e h in
+    record { here = next w row column (w * row) first k m (s .here) (s .short) rest (mul-add w row 1) (mul-one w); short = positive column w (s .short) }
+  where
+    whole : (n k w column m : ℕ) → m ≡ min (n - k) (w - column) → k + m < n → m ≡ w - column
+    whole n k w column m e h = omega arith
+
+    positive : (c w : ℕ) → c < w → 0 < w
+    positive c w h = omega arith
+
+    next : (w row column p first k m : ℕ) → first + k ≡ p + column → column < w → m ≡ w - column → w * (row + 1) ≡ p + w * 1 → w * 1 ≡ w
+        → first + (k + m) ≡ w * (row + 1) + 0
+    next w row column p first k m e h r q o = omega (arith, e, h, r, q, o)
+
+pub row-below : (w h k r c : ℕ) → k < w * h → k ≡ w * r + c → r < h
+row-below w h k r c l e =
+    by-cases (leb (suc r) h) (λ t. leb-true (suc r) h t)
+    (λ t.
+    let far = leb-false (suc r) h t in
+    absurd (omega (arith, l, e, mul-le-mul-left {m = h} {n = r} w (omega (arith, far)))))
+
+pub row-fits : (b : Blit) (first n k row column m : ℕ) (other own : ℕ) → b .size < 4294967296 → Fitting b first n other own → k < n
+    → Stands (widthOf (b .size)) first k row column → m ≡ min (n - k) (widthOf (b .size) - column) → RowFits b row column m other own
+row-fits b first n k row column m other own small f h s e =
+    record {
+      size-small = small;
+      row-small = omega (arith, small, row-below (widthOf (b .size)) (heightOf (b .size)) (first + k) row column (omega (arith, f .visits, h)) (s .here));
+      columns = within (widthOf (b .size)) (n - k) column m e (s .short);
+      own-area = f .own-area;
+      other-area = f .other-area;
+      inside = f .inside;
+    }
+  where
+    within : (w left column m : ℕ) → m ≡ min left (w - column) → column < w → column + m ≤ w
+    within w left column m e h = omega arith
+
+-- one row more
+pub rows-more : (b : Blit) (other l k₁ k₂ : List ℕ) (first k row column m : ℕ) → k₁ ≡ inTurn (λ i. visited b other (first + i)) k l
+    → Stands (widthOf (b .size)) first k row column
+    → k₂ ≡ inTurn (λ i. visited b other (widthOf (b .size) * row + column + i)) m k₁
+    → k₂ ≡ inTurn (λ i. visited b other (first + i)) (k + m) l
+rows-more b other l k₁ k₂ first k row column m e s g =
+    g
+    ∙ turn-agree (λ i. visited b other (widthOf (b .size) * row + column + i)) (λ i. visited b other (first + (k + i))) m k₁
+    (λ i p t. ap (λ j. visited b other j t) (ap (λ j. j + i) (sym (s .here)) ∙ add-assoc first k i))
+    ∙ ap (inTurn (λ i. visited b other (first + (k + i))) m) e
+    ∙ turn-join (λ i. visited b other (first + i)) l k m
+
+pub all-rows : (b : Blit) (other l r : List ℕ) (first k n : ℕ) → r ≡ inTurn (λ i. visited b other (first + i)) k l → k ≤ n → n ≤ k
+    → r ≡ inTurn (λ i. visited b other (first + i)) n l
+all-rows b other l r first k n e p q =
+    let same : k ≡ n = omega arith in
+    e ∙ ap (λ k. inTurn (λ i. visited b other (first + i)) k l) same
+
+-- a blit by the tests that it passes
+pub blit-out : (b : Blit) (first n : ℕ) (other l : List ℕ) → blitFits b first n (length other) (length l) ≡ false → l ≡ blitted b first n other l
+unfolding blitted
+blit-out b first n other l e = ap (λ t. cond t (inTurn (λ i. visited b other (first + i)) n l) l) (sym e)
+
+pub blit-in : (b : Blit) (first n : ℕ) (other l : List ℕ) → blitFits b first n (length other) (length l) ≡ true
+    → inTurn (λ i. visited b other (first + i)) n l ≡ blitted b first n other l
+unfolding blitted
+blit-in b first n other l e = ap (λ t. cond t (inTurn (λ i. visited b other (first + i)) n l) l) (sym e)
+
+pub no-visits : (b : Blit) (first n : ℕ) (other l : List ℕ) → n ≡ 0 → l ≡ inTurn (λ i. visited b other (first + i)) n l
+no-visits b first n other l e = turn-none (λ i. visited b other (first + i)) l ∙ ap (λ n. inTurn (λ i. visited b other (first + i)) n l) (sym e)

@@ -1,0 +1,150 @@
+-- One row drawn by its parts: what it needs, and that it is the visits of that row.
+-- Assumes nothing.
+use mathlib.Core.Path.{_≡_, refl, ap, ap₂, sym, _∙_}
+use mathlib.Core.Bool.{Bool, true, false, cond, _&&_, false≢true}
+use mathlib.Core.List.{List}
+use Prim.Native.Nat.{ℕ, _+_, _-_, _*_, _≤_, _<_, min, max}
+use native.Mathlib.Omega.{arith}
+use borrow.Author.Tests.{leb-true}
+use lib.Dec.{leb}
+use lib.ListN.{length}
+use Rattle.lemmas.proofs.Booleans.{and-left, and-right}
+use Rattle.geometry.specs.Coordinates.{origin, pointOf}
+use Rattle.geometry.specs.Blit.{widthOf, rightToLeft, away}
+use Rattle.geometry.specs.declared.Window.{Window}
+use Rattle.geometry.proofs.Clips.{area}
+use Rattle.blits.specs.Blits.{inTurn, reads, visited, windowInside, seenColumns, targetRow, sourceRow, rowSeen, rowOf, leftEdge, RowFits}
+use Rattle.blits.specs.declared.Blit.{Blit}
+use Rattle.blits.specs.declared.Columns.{Columns}
+use Rattle.blits.proofs.Spans.{x-from}
+use Rattle.blits.proofs.Rowwise.{RowSeen, row-of, Within, within-of}
+use Rattle.blits.proofs.Drawn.{from-least, past-most, row-hidden, row-drawn}
+
+pub edge-below : (back : Bool) (x a z : ℕ) → x < 131072 → a < 65536 → leftEdge back x a z < 262144
+edge-below true x a z h k = omega arith
+edge-below false x a z h k = omega arith
+
+pub away-below : (back : Bool) (c k : ℕ) → c < 131072 → k < 65536 → away back c k < 262144
+away-below true c k h l = omega arith
+away-below false c k h l = omega arith
+
+-- the edges of columns a to before z
+edge-from : (back : Bool) (x a z o : ℕ) → a < z → o ≤ away back x a → o ≤ away back x (z - 1) → o ≤ leftEdge back x a z
+edge-from true x a z o some p q = q
+edge-from false x a z o some p q = p
+
+edge-to : (back : Bool) (x a z right : ℕ) → 65536 ≤ x → z ≤ 65536 → a < z → away back x a < right → away back x (z - 1) < right
+    → leftEdge back x a z + (z - a) ≤ right
+edge-to true x a z right high small some p q = omega arith
+edge-to false x a z right high small some p q = omega arith
+
+-- n pixels of a row from the edge e on lie in the buffer
+room : (width height y e n : ℕ) → 0 < n → origin ≤ e → e + n ≤ origin + width → y - origin < height
+    → (y - origin) * width + (e - origin) + n ≤ width * height
+room width height y e n some low high row =
+    omega (arith, area width height (e - origin + n - 1) (y - origin) (omega arith) row)
+
+pub record Inside (width height : ℕ) (w : Window) : Type 0 where
+  pub left-in : origin ≤ w .left
+  pub right-in : w .right ≤ origin + width
+  pub top-in : origin ≤ w .top
+  pub bottom-in : w .bottom ≤ origin + height
+
+pub inside-of : (width height : ℕ) (w : Window) → windowInside width height w ≡ true → Inside width height w
+inside-of width height w h =
+    let l = leb origin (w .left) in
+    let r = leb (w .right) (origin + width) in
+    let t = leb origin (w .top) in
+    let b = leb (w .bottom) (origin + height) in
+    let three = and-left (l && r && t) b h in
+    let two = and-left (l && r) t three in
+    record {
+      left-in = leb-true origin (w .left) (and-left l r two);
+      right-in = leb-true (w .right) (origin + width) (and-right l r two);
+      top-in = leb-true origin (w .top) (and-right (l && r) t three);
+      bottom-in = leb-true (w .bottom) (origin + height) (and-right (l && r && t) b h);
+    }
+
+module _ (b : Blit) (other : List ℕ) (r c m own : ℕ) (f : RowFits b r c m (length other) own) (seen : Columns) (s : seen ≡ seenColumns b) (a z : ℕ)
+    (starts : a ≡ max c (seen .from)) (ends : z ≡ min (c + m) (seen .past)) where
+  abbrev visit : ℕ → List ℕ → List ℕ
+  visit i l = visited b other (widthOf (b .size) * r + c + i) l
+
+  begins : a ≡ max c (seenColumns b .from)
+  begins = starts ∙ ap (λ s. max c (s .from)) s
+
+  stops : z ≡ min (c + m) (seenColumns b .past)
+  stops = ends ∙ ap (λ s. min (c + m) (s .past)) s
+
+  pub z-small : z ≤ 65536
+  z-small = omega (arith, past-most (c + m) (seenColumns b .past) z stops .0, f .columns, f .size-small)
+
+  pub none-in-row : (l : List ℕ) → rowSeen b r ≡ false → l ≡ inTurn visit m l
+  none-in-row l e = row-hidden b other r c m (f .columns) (f .size-small) l (λ i q t. absurd (false≢true (sym e ∙ t .0)))
+
+  pub none-in-columns : (l : List ℕ) → z ≤ a → l ≡ inTurn visit m l
+  none-in-columns l h =
+      row-hidden b other r c m (f .columns) (f .size-small) l
+      (λ i q t. outside c m (seenColumns b .from) (seenColumns b .past) a z i begins stops h q (t .1) (t .2))
+    where
+      outside : (c m from past a z i : ℕ) → a ≡ max c from → z ≡ min (c + m) past → z ≤ a → i < m → from ≤ c + i → c + i < past → ⊥
+      outside c m from past a z i e g h q p t = omega arith
+
+  module _ (some : a < z) (row : rowSeen b r ≡ true) where
+    abbrev back : Bool
+    back = rightToLeft (b .direction)
+
+    abbrev targetPlace : ℕ
+    targetPlace = (targetRow b r - origin) * b .width + (leftEdge back (pointOf (b .to) .x) a z - origin)
+
+    abbrev sourcePlace : ℕ
+    sourcePlace = (sourceRow b r - origin) * b .width + (leftEdge back (pointOf (b .from) .x) a z - origin)
+
+    inside : Inside (b .width) (b .height) (b .window)
+    inside = inside-of (b .width) (b .height) (b .window) (f .inside)
+
+    within : (j : ℕ) → a ≤ j → j < z → Within b j
+    within j p q =
+        within-of b j (omega (arith, z-small, q))
+        (omega (arith, from-least c (seenColumns b .from) a begins .1, p))
+        (omega (arith, past-most (c + m) (seenColumns b .past) z stops .1, q))
+
+    first : Within b a
+    first = within a (omega arith) some
+
+    last : Within b (z - 1)
+    last = within (z - 1) (omega (arith, some)) (omega (arith, some))
+
+    pub target-room : targetPlace + (z - a) ≤ own
+    target-room =
+        let x = pointOf (b .to) .x in
+        let to = edge-to back x a z (b .window .right) (x-from (b .to)) z-small some (first .target-right) (last .target-right) in
+        let from =
+        edge-from back x a z origin some (omega (arith, inside .left-in, first .target-left)) (omega (arith, inside .left-in, last .target-left)) in
+        let here = row-of b r row in
+        omega (
+          arith,
+          f .own-area,
+          room (b .width) (b .height) (targetRow b r) (leftEdge back x a z) (z - a) (omega (arith, some)) from (omega (arith, to, inside .right-in))
+              (omega (arith, here .from-top, here .to-bottom, inside .top-in, inside .bottom-in)),
+        )
+
+    pub source-room : reads (b .paint) ≡ true → sourcePlace + (z - a) ≤ own
+    source-room t =
+        let x = pointOf (b .from) .x in
+        let p = first .source t in
+        let q = last .source t in
+        let to = edge-to back x a z (origin + b .width) (x-from (b .from)) z-small some (p .1) (q .1) in
+        let here = row-of b r row .source t in
+        omega (
+          arith,
+          f .own-area,
+          room (b .width) (b .height) (sourceRow b r) (leftEdge back x a z) (z - a) (omega (arith, some)) (edge-from back x a z origin some (p .0) (q .0)) to
+              (omega (arith, here .0, here .1)),
+        )
+
+    pub whole-row : (at from : ℕ) → at ≡ targetPlace → from ≡ sourcePlace → (l k : List ℕ) → k ≡ rowOf (b .paint) back other at from (z - a) l
+        → k ≡ inTurn visit m l
+    whole-row at from p q l k e =
+        e ∙ ap₂ (λ at from. rowOf (b .paint) back other at from (z - a) l) p q
+        ∙ row-drawn b other r c m (f .columns) (f .size-small) a z begins stops some row (inside .left-in) l

@@ -1,0 +1,48 @@
+use borrow.Author.Needs.{needs}
+use mathlib.Core.Path.{_≡_, sym, _∙_}
+use mathlib.Core.Bool.{true}
+use native.Mathlib.Omega.{arith}
+use borrow.Author.Tests.{not-true, not-false}
+use lib.ListN.{length}
+use Rattle.blits.specs.Blits.{blitFits}
+use Rattle.blits.proofs.Loops.{blit-out, blit-in, no-visits}
+use Rattle.blits.proofs.draw_blit.Statement.{statement}
+use Rattle.blits.proofs.draw_blit.Tie as tie
+
+blit-fits-requires : tie.Need-blit-fits-requires
+blit-fits-requires c κs = search needs
+
+returns : tie.Need-returns
+returns c = blit-out _ _ _ _ _ (sym (c .before .blit-fits .ensures) ∙ not-true _ (c .if1 .taken))
+
+fits : (c : tie.Else1) → let s = c .before .before .before .before .args in blitFits (s .b) (s .first) (s .n) (length (s .other .now)) (length (s .buffer .now)) ≡ true
+fits c = sym (c .before .blit-fits .ensures) ∙ not-false _ (c .if1 .left)
+
+returns-2 : tie.Need-returns-2
+returns-2 c = no-visits _ _ _ _ _ (c .if2 .taken) ∙ blit-in _ _ _ _ _ (fits (c .before))
+
+seen-columns-requires : tie.Need-seen-columns-requires
+seen-columns-requires c κs = search needs
+
+draw-rows-requires : tie.Need-draw-rows-requires
+draw-rows-requires c κs = (omega arith, fits (c .before .before .before), c .before .seen-columns .ensures)
+
+same-length : tie.Need-same-length
+same-length c = search needs
+
+returns-3 : tie.Need-returns-3
+returns-3 c =
+    let done = c .before .before in
+    done .draw-rows .ensures ∙ blit-in _ _ _ _ _ (fits (done .before .before .before .before))
+
+pub draw-blit-spec : {M : Type 1} → statement M
+draw-blit-spec =
+    tie.close
+    (tie.spec
+    blit-fits-requires
+    returns
+    returns-2
+    seen-columns-requires
+    draw-rows-requires
+    same-length
+    returns-3)

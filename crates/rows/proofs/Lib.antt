@@ -1,0 +1,7 @@
+pub mod Sweeps
+pub mod Orders
+pub mod Within
+pub mod Tests
+pub mod Mixing
+pub mod Plain
+pub mod Fitting

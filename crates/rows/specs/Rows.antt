@@ -1,0 +1,56 @@
+-- Rows of pixels (01, Pixels): one visit after the other, each on the bytes as they stand at that visit.
+use mathlib.Core.Bool.{Bool, cond, _&&_}
+use mathlib.Core.List.{List}
+use Prim.Native.Nat.{ℕ, zero, suc, _+_, _-_}
+use lib.Dec.{eqb, leb}
+use lib.ListN.{length, getD, set}
+use Rattle.raster.specs.Selectors.{drawn, selected}
+use Rattle.raster.specs.declared.Pen.{Pen}
+use Rattle.rows.specs.declared.Mix.{Mix}
+
+-- The new byte from a source byte and an old one: a source byte equal to KEY, with KEY set, draws nothing.
+unfoldable pub mixed : Mix → ℕ → ℕ → ℕ
+mixed m s d = cond (m .keyed && eqb s (m .key)) d (drawn (selected (m .selectors) s) d)
+
+-- Visit k writes value k m at place k, where m are the bytes as visits 0 to k - 1 left them.
+unfoldable pub sweep : (ℕ → ℕ) → (ℕ → List ℕ → ℕ) → ℕ → List ℕ → List ℕ
+sweep place value zero l = l
+sweep place value (suc k) l = set (sweep place value k l) (place k) (value k (sweep place value k l))
+
+-- n pixels of l from `at` on, to the right.
+abbrev pub filled : Pen → ℕ → List ℕ → ℕ → List ℕ
+filled p n l at = sweep (λ k. at + k) (λ k m. drawn p (getD m (at + k) 0)) n l
+
+-- The source is another buffer.
+abbrev pub copied : (ℕ → ℕ → ℕ) → ℕ → List ℕ → ℕ → List ℕ → ℕ → List ℕ
+copied f n l at source from = sweep (λ k. at + k) (λ k m. f (getD source (from + k) 0) (getD m (at + k) 0)) n l
+
+-- The source is the same buffer.
+abbrev pub moved : (ℕ → ℕ → ℕ) → ℕ → List ℕ → ℕ → ℕ → List ℕ
+moved f n l at from = sweep (λ k. at + k) (λ k m. f (getD m (from + k) 0) (getD m (at + k) 0)) n l
+
+-- From right to left, from the pixel before `at` down.
+abbrev pub filledBack : Pen → ℕ → List ℕ → ℕ → List ℕ
+filledBack p n l at = sweep (λ k. at - (k + 1)) (λ k m. drawn p (getD m (at - (k + 1)) 0)) n l
+
+abbrev pub copiedBack : (ℕ → ℕ → ℕ) → ℕ → List ℕ → ℕ → List ℕ → ℕ → List ℕ
+copiedBack f n l at source from =
+    sweep (λ k. at - (k + 1)) (λ k m. f (getD source (from - (k + 1)) 0) (getD m (at - (k + 1)) 0)) n l
+
+abbrev pub movedBack : (ℕ → ℕ → ℕ) → ℕ → List ℕ → ℕ → ℕ → List ℕ
+movedBack f n l at from = sweep (λ k. at - (k + 1)) (λ k m. f (getD m (from - (k + 1)) 0) (getD m (at - (k + 1)) 0)) n l
+
+-- Rows that do not fit their buffers are not drawn.
+unfoldable pub filledRow : Pen → ℕ → List ℕ → ℕ → List ℕ
+filledRow p n l at = cond (leb (at + n) (length l)) (filled p n l at) l
+
+unfoldable pub copiedRow : Mix → ℕ → List ℕ → ℕ → List ℕ → ℕ → List ℕ
+copiedRow m n l at source from =
+    cond (leb (at + n) (length l) && leb (from + n) (length source)) (copied (mixed m) n l at source from) l
+
+unfoldable pub movedRow : Mix → ℕ → List ℕ → ℕ → ℕ → List ℕ
+movedRow m n l at from = cond (leb (at + n) (length l) && leb (from + n) (length l)) (moved (mixed m) n l at from) l
+
+unfoldable pub movedBackRow : Mix → ℕ → List ℕ → ℕ → ℕ → List ℕ
+movedBackRow m n l at from =
+    cond (leb n at && leb n from && leb at (length l) && leb from (length l)) (movedBack (mixed m) n l at from) l
