@@ -14,7 +14,7 @@ use Rattle.raster.specs.Raster.{newByte}
 use Rattle.raster.specs.Selectors.{penOf, drawn, selectorsOf, selected}
 use Rattle.raster.proofs.Wide.{pen-as, selectors-as}
 use Rattle.geometry.specs.Coordinates.{pointOf}
-use Rattle.geometry.specs.Clip.{rectOf, inRect, inBuffer, placeOf, windowOf, inWindow}
+use Rattle.geometry.specs.Clip.{rectOf, inRect, inBuffer, placeOf, inWindow}
 use Rattle.geometry.specs.Blit.{blitCount, blitPoint, blitVisit}
 use Rattle.geometry.specs.declared.Point.{Point}
 use Rattle.geometry.specs.declared.Place.{Place}
@@ -29,7 +29,7 @@ use Rattle.blits.specs.declared.Paint.the-variants.{Solid, Copied, Moved}
 use Rattle.commands.specs.Visits.{commandIn, isBlit, countOf, visitAt, clippedOut, throughTo, targetOf}
 use Rattle.commands.specs.Sources.{keyed, readAt, copiedAt, copiedOf, sourceOf}
 use Rattle.commands.specs.Steps.{inked, inkedAt}
-use Rattle.commands.specs.Leaps.{mixIn, paintOf, blitIn}
+use Rattle.commands.specs.Leaps.{mixIn, paintOf, blitIn, windowIn}
 use Rattle.commands.specs.declared.Engine.{Engine}
 use Rattle.commands.specs.declared.Source.{Source}
 use Rattle.commands.specs.declared.Source.the-variants.{Value, Nothing}
@@ -43,6 +43,15 @@ one-test : (t u : Bool) (p : Place) → cond t Outside (cond u p Outside) ≡ co
 one-test true u p = refl
 one-test false u p = refl
 
+-- the place of a visit that lies at a point
+pub place-of-visit : (e : Engine) (width height k : ℕ) (p : Point) → visitAt e k ≡ VisitAt p
+    → targetOf e width height k ≡ cond (inWindow (windowIn e width height) p) (At (placeIn width p)) Outside
+unfolding placeOf
+place-of-visit e width height k p h =
+    ap (throughTo e width height) h ∙ one-test (clippedOut e p) (inBuffer width height p) (At (placeIn width p))
+    ∙ ap (λ t. cond t (At (placeIn width p)) Outside)
+    (sym (window-lets-through width height (commandIn e .clip) (e .registers .clptl) (e .registers .clpbr) p))
+
 module _ (e : Engine) (width height k : ℕ) (blit : isBlit (commandIn e) ≡ true) (few : k < countOf e) where
   abbrev target : Point
   target = blitPoint (pointOf (e .registers .xy1)) (e .registers .xy2) (e .registers .xy3) k
@@ -51,7 +60,7 @@ module _ (e : Engine) (width height k : ℕ) (blit : isBlit (commandIn e) ≡ tr
   source = blitPoint (pointOf (e .registers .xy0)) (e .registers .xy2) (e .registers .xy3) k
 
   abbrev seen : Bool
-  seen = inWindow (windowOf width height (commandIn e .clip) (e .registers .clptl) (e .registers .clpbr)) target
+  seen = inWindow (windowIn e width height) target
 
   below : k < blitCount (e .registers .xy2)
   below = omega (arith, few, count-is e blit)
@@ -61,11 +70,7 @@ module _ (e : Engine) (width height k : ℕ) (blit : isBlit (commandIn e) ≡ tr
   visit-is = rw blit (sym (blit-at (pointOf (e .registers .xy1)) (e .registers .xy2) (e .registers .xy3) k below))
 
   place-is : targetOf e width height k ≡ cond seen (At (placeIn width target)) Outside
-  unfolding placeOf
-  place-is =
-      ap (throughTo e width height) visit-is ∙ one-test (clippedOut e target) (inBuffer width height target) (At (placeIn width target))
-      ∙ ap (λ t. cond t (At (placeIn width target)) Outside)
-      (sym (window-lets-through width height (commandIn e .clip) (e .registers .clptl) (e .registers .clpbr) target))
+  place-is = place-of-visit e width height k target visit-is
 
   read-at : (t : Bool) (buffer : List ℕ) (i : ℕ) → readAt e buffer (cond t (At i) Outside) ≡ cond t (keyed e (getD buffer i 0)) Nothing
   read-at true buffer i = refl
@@ -77,11 +82,11 @@ module _ (e : Engine) (width height k : ℕ) (blit : isBlit (commandIn e) ≡ tr
       ap (copiedAt e width height buffer) (sym (blit-at (pointOf (e .registers .xy0)) (e .registers .xy2) (e .registers .xy3) k below))
       ∙ read-at (inBuffer width height source) buffer (placeIn width source)
 
-code-small : (e : Engine) → commandIn e .code < 256
+pub code-small : (e : Engine) → commandIn e .code < 256
 code-small e = omega arith
 
 -- the mark of a value at a place that may be hidden
-ink-value : (e : Engine) (v : ℕ) (t : Bool) (i : ℕ) (l : List ℕ)
+pub ink-value : (e : Engine) (v : ℕ) (t : Bool) (i : ℕ) (l : List ℕ)
     → inked e (Value v) (cond t (At i) Outside) l ≡ cond t (set l i (newByte (commandIn e .code) v (getD l i 0) (e .registers .mask))) l
 ink-value e v true i l = refl
 ink-value e v false i l = refl

@@ -5,4 +5,5 @@ pub mod Triggers
 pub mod Visits
 pub mod Blits
 pub mod Leaping
+pub mod Strokes
 pub mod Examples

@@ -1,14 +1,22 @@
 -- Many visits of one command at once: what the row loops are given. The visits themselves are those of Steps.
-use mathlib.Core.Bool.{Bool, true, cond, _&&_}
+use mathlib.Core.Bool.{Bool, true, not, cond, _&&_, _||_}
+use mathlib.Core.List.{List}
 use Prim.Native.Nat.{ℕ, _+_, _*_, _%_}
-use lib.Dec.{eqb, ltb}
+use lib.Dec.{eqb, leb, ltb}
 use Rattle.raster.specs.Selectors.{penOf, selectorsOf}
+use Rattle.raster.specs.declared.Pen.{Pen}
+use Rattle.geometry.specs.Coordinates.{pointOf}
 use Rattle.geometry.specs.Clip.{windowOf}
+use Rattle.geometry.specs.declared.Window.{Window}
 use Rattle.rows.specs.declared.Mix.{Mix}
 use Rattle.blits.specs.declared.Blit.{Blit}
 use Rattle.blits.specs.declared.Paint.{Paint}
 use Rattle.blits.specs.declared.Paint.the-variants.{Solid, Copied, Moved}
-use Rattle.commands.specs.Visits.{commandIn, isBlit, countOf}
+use Rattle.entries.specs.Fields.{patternControlOf}
+use Rattle.registers.specs.declared.dashes.Pattern.{Pattern}
+use Rattle.strokes.specs.Strokes.{strokeOf, Dashed, dashed, dashesOf}
+use Rattle.strokes.specs.declared.Dashes.{Dashes}
+use Rattle.commands.specs.Visits.{commandIn, isBlit, isLine, lineStart, countOf}
 use Rattle.commands.specs.declared.Engine.{Engine}
 
 -- FORE, MASK and KEY are bytes in a legal register file.
@@ -41,10 +49,12 @@ blitIn e width height =
       paint = paintOf e;
     }
 
--- An engine with k more pixels visited, and more left.
+-- An engine with k more pixels visited, and more left; the same with the pattern at q.
+abbrev pub movedTo : Engine → ℕ → Pattern → Engine
+movedTo e k q = record { «under_way» = true; visited = e .visited + k; registers = e .registers; pattern = q; last = e .last }
+
 abbrev pub movedOn : Engine → ℕ → Engine
-movedOn e k =
-    record { «under_way» = true; visited = e .visited + k; registers = e .registers; pattern = e .pattern; last = e .last }
+movedOn e k = movedTo e k (e .pattern)
 
 -- Whether n visits can go row by row: a blit under way with more than n pixels left, on buffers of width x height bytes.
 unfoldable pub goesByRows : Engine → ℕ → ℕ → ℕ → ℕ → ℕ → Bool
@@ -53,5 +63,42 @@ goesByRows e n width height display virt =
     && isBlit (commandIn e)
     && ltb (e .visited + n) (countOf e)
     && ltb (e .registers .key) 256
+    && eqb display (width * height)
+    && eqb virt (width * height)
+
+-- A line draws with FORE, or with FORE and BACK by its pattern.
+abbrev pub penIn : Engine → ℕ → Pen
+penIn e value = penOf (commandIn e .code) (value % 256) (e .registers .mask % 256)
+
+abbrev pub dashesIn : Engine → Dashes
+dashesIn e =
+    record {
+      lpat = e .registers .lpat;
+      fore = penIn e (e .registers .fore);
+      back = penIn e (e .registers .back);
+      control = patternControlOf (e .registers .pctrl);
+    }
+
+abbrev pub windowIn : Engine → ℕ → ℕ → Window
+windowIn e width height = windowOf width height (commandIn e .clip) (e .registers .clptl) (e .registers .clpbr)
+
+-- n pixels of the line in CMD on the buffer that it draws on, and the pattern after them.
+unfoldable pub strokeIn : Engine → ℕ → ℕ → ℕ → List ℕ → Dashed
+strokeIn e width height n l =
+    let a = pointOf (lineStart e) in
+    let b = pointOf (e .registers .xy1) in
+    let w = windowIn e width height in
+    cond (commandIn e .solid) (dashed (strokeOf width w (penIn e (e .registers .fore)) a b (e .visited) n l) (e .pattern))
+    (dashesOf width w (dashesIn e) a b (e .visited) n (dashed l (e .pattern)))
+
+-- Whether n visits can go by a line's error term: a line under way with more than n pixels left, on buffers of width x height
+-- bytes, that is solid or draws both bits of its pattern.
+unfoldable pub goesByStroke : Engine → ℕ → ℕ → ℕ → ℕ → ℕ → Bool
+goesByStroke e n width height display virt =
+    e .«under_way»
+    && isLine (commandIn e)
+    && (commandIn e .solid || not (commandIn e .trnsp))
+    && ltb (e .visited + n) (countOf e)
+    && leb height 65536
     && eqb display (width * height)
     && eqb virt (width * height)

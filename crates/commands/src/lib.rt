@@ -39,7 +39,7 @@ pub enum Source {
     Nothing,
 }
 
-fn is_line(c: Command) -> bool
+pub(crate) fn is_line(c: Command) -> bool
     ensures { λ r. ⌜ r ≡ isLine c ⌝ }
 {
     (c.opcode == 2) | (c.opcode == 5)
@@ -80,7 +80,7 @@ impl Engine {
     }
 
     // Where the line in CMD starts.
-    fn line_start(self) -> u32
+    pub(crate) fn line_start(self) -> u32
         ensures { λ r. ⌜ r ≡ lineStart self ⌝ }
     {
         let g = self.registers;

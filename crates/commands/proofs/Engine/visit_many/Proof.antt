@@ -20,8 +20,13 @@ same-length-2 c = search needs
 returns : tie.Need-returns
 returns c = search needs
 
-visit-each-requires : tie.Need-visit-each-requires
-visit-each-requires c κs = search needs
+goes-by-stroke-requires : tie.Need-goes-by-stroke-requires
+goes-by-stroke-requires c κs = search needs
+
+visit-stroke-requires : tie.Need-visit-stroke-requires
+visit-stroke-requires c κs =
+    let o = c .before .before in
+    sym (o .before .goes-by-stroke .ensures) ∙ o .if2 .taken
 
 same-length-3 : tie.Need-same-length-3
 same-length-3 c = search needs
@@ -32,6 +37,18 @@ same-length-4 c = search needs
 returns-2 : tie.Need-returns-2
 returns-2 c = search needs
 
+visit-each-requires : tie.Need-visit-each-requires
+visit-each-requires c κs = search needs
+
+same-length-5 : tie.Need-same-length-5
+same-length-5 c = search needs
+
+same-length-6 : tie.Need-same-length-6
+same-length-6 c = search needs
+
+returns-3 : tie.Need-returns-3
+returns-3 c = search needs
+
 pub visit-many-spec : {M : Type 1} → statement M
 visit-many-spec =
     tie.close
@@ -41,7 +58,12 @@ visit-many-spec =
     same-length
     same-length-2
     returns
-    visit-each-requires
+    goes-by-stroke-requires
+    visit-stroke-requires
     same-length-3
     same-length-4
-    returns-2)
+    returns-2
+    visit-each-requires
+    same-length-5
+    same-length-6
+    returns-3)

@@ -1,0 +1,8 @@
+pub mod Turns
+pub mod Terms
+pub mod Between
+pub mod Traced
+pub mod Fitting
+pub mod Plots
+pub mod Courses
+pub mod Drawn

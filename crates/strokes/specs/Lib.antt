@@ -1,0 +1,4 @@
+pub mod Strokes
+pub mod Turns
+pub mod Tracers
+pub mod Cursors

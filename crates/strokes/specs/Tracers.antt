@@ -1,0 +1,99 @@
+-- A line's pixels by an error term: what the term is at each pixel, and the step to the next.
+use mathlib.Core.Path.{_≡_}
+use mathlib.Core.Bool.{true, cond}
+use mathlib.Core.List.{List}
+use mathlib.Core.Logic.{_⊎_}
+use Prim.Native.Nat.{ℕ, _+_, _-_, _*_, _≤_, _<_}
+use lib.Dec.{ltb}
+use Rattle.raster.specs.declared.Pen.{Pen}
+use Rattle.geometry.specs.Clip.{inWindow}
+use Rattle.geometry.specs.Line.{exact, distance, stepsOf, linePoint}
+use Rattle.geometry.specs.declared.Point.{Point}
+use Rattle.geometry.specs.declared.Window.{Window}
+use Rattle.strokes.specs.Strokes.{plotted, Dashed, dash}
+use Rattle.strokes.specs.Turns.{inTurn}
+use Rattle.strokes.specs.declared.Dashes.{Dashes}
+use Rattle.strokes.specs.declared.tracing.Stepper.{Stepper}
+use Rattle.strokes.specs.declared.tracing.Tracer.{Tracer}
+
+-- Upward the term is 2(E - nv) + n - 1, downward 2(nv - E) + n.
+pub record Up (n e a b : ℕ) (g : Stepper) : Type 0 where
+  pub order : a ≤ b
+  pub up-is : g .up ≡ 1
+  pub down-is : g .down ≡ 0
+  pub term : 2 * (n * g .coordinate) + g .error + 1 ≡ 2 * e + n
+
+pub record Down (n e a b : ℕ) (g : Stepper) : Type 0 where
+  pub order : b ≤ a
+  pub up-is : g .up ≡ 0
+  pub down-is : g .down ≡ 1
+  pub term : 2 * (n * g .coordinate) + n ≡ 2 * e + g .error
+
+-- The stepper at pixel i of n, from a to b.
+pub record On (n i a b : ℕ) (g : Stepper) : Type 0 where
+  pub small : g .error < 2 * n
+  pub slope : distance a b ≤ n
+  pub grows : g .growth ≡ 2 * distance a b
+  pub way : Up n (exact n i a b) a b g ⊎ Down n (exact n i a b) a b g
+
+unfoldable pub stepped : ℕ → Stepper → Stepper
+stepped full g =
+    cond (ltb (g .error + g .growth) full)
+    (record {
+      coordinate = g .coordinate;
+      error = g .error + g .growth;
+      growth = g .growth;
+      up = g .up;
+      down = g .down;
+    })
+    (record {
+      coordinate = g .coordinate + g .up - g .down;
+      error = g .error + g .growth - full;
+      growth = g .growth;
+      up = g .up;
+      down = g .down;
+    })
+
+-- A step stays in the numbers of the machine.
+pub record Room (full : ℕ) (g : Stepper) : Type 0 where
+  pub error-most : g .error ≤ 4294967296
+  pub growth-most : g .growth ≤ 4294967296
+  pub coordinate-most : g .coordinate ≤ 131072
+  pub up-most : g .up ≤ 1
+  pub down-most : g .down ≤ 1
+  pub enough : full ≤ g .error + g .growth → g .down ≤ g .coordinate + g .up
+
+abbrev pub pointOn : Tracer → Point
+pointOn t = record { x = t .x .coordinate; y = t .y .coordinate }
+
+pub record Traces (a b : Point) (i : ℕ) (t : Tracer) : Type 0 where
+  pub along-x : On (stepsOf a b) i (a .x) (b .x) (t .x)
+  pub along-y : On (stepsOf a b) i (a .y) (b .y) (t .y)
+  pub full-is : t .full ≡ 2 * stepsOf a b
+
+pub record RoomBoth (t : Tracer) : Type 0 where
+  pub x-room : Room (t .full) (t .x)
+  pub y-room : Room (t .full) (t .y)
+
+unfoldable pub traced : Tracer → Tracer
+traced t = record { x = stepped (t .full) (t .x); y = stepped (t .full) (t .y); full = t .full }
+
+-- k pixels on
+abbrev pub tracerAfter : Tracer → ℕ → Tracer
+tracerAfter t k = inTurn (λ _. traced) k t
+
+abbrev pub Runs : Tracer → ℕ → Type 0
+Runs t n = (k : ℕ) → k < n → RoomBoth (tracerAfter t k)
+
+-- Pixel k from a tracer on, where the window lets it through.
+abbrev pub plotAt : ℕ → Window → Pen → Tracer → ℕ → List ℕ → List ℕ
+plotAt width w pen t k = plotted width w pen (pointOn (tracerAfter t k))
+
+abbrev pub dashAt : ℕ → Window → Dashes → Tracer → ℕ → Dashed → Dashed
+dashAt width w d t k = dash width w d (pointOn (tracerAfter t k))
+
+-- Where a window lets through both ends of a stretch of a line, it lets through all of it; proved in proofs/Between.antt.
+abbrev pub Between : Type 0
+Between =
+    (w : Window) (a b : Point) (i k j : ℕ) → i ≤ k → k ≤ j → j ≤ stepsOf a b
+    → inWindow w (linePoint a b i) ≡ true → inWindow w (linePoint a b j) ≡ true → inWindow w (linePoint a b k) ≡ true

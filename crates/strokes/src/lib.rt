@@ -1,0 +1,124 @@
+// Many pixels of a line at once, by an error term and additions.
+ghost use mathlib.Core.Path.{_≡_};
+ghost use Prim.Native.Nat.{_-_};
+ghost use Rattle.geometry.specs.Coordinates.{pointOf};
+ghost use Rattle.strokes.specs.Strokes.{windowFits, strokeFits, strokeOf, dashed, dashesOf};
+
+mod cursors;
+mod tracing;
+
+use crate::cursors::dash_shown;
+use crate::cursors::draw_shown;
+use crate::tracing::dash_tested;
+use crate::tracing::draw_tested;
+use crate::tracing::ends_shown;
+use crate::tracing::tracer_at;
+use entries::PatternControl;
+use geometry::ORIGIN;
+use geometry::Window;
+use geometry::line_steps;
+use raster::Pen;
+use registers::Pattern;
+
+// What a dashed line draws with: LPAT, a pen for each of its bits, and PCTRL's length and scale.
+pub struct Dashes {
+    pub lpat: u32,
+    pub fore: Pen,
+    pub back: Pen,
+    pub control: PatternControl,
+}
+
+// a - b, or 0 where b is the larger.
+fn saturating_sub(a: usize, b: usize) -> usize
+    ensures { λ r. ⌜ r ≡ a - b ⌝ }
+{
+    if b <= a { a - b } else { 0 }
+}
+
+// Whether a window lies in a buffer of `long` bytes, in rows of `width` pixels.
+fn window_fits(width: u32, w: Window, long: usize) -> bool
+    ensures { λ r. ⌜ r ≡ windowFits width w long ⌝ }
+{
+    if ORIGIN + 65536 < w.bottom {
+        return false;
+    }
+    let rows = saturating_sub(w.bottom, ORIGIN);
+    (ORIGIN <= w.left)
+        & (w.right <= ORIGIN + width as usize)
+        & (ORIGIN <= w.top)
+        & (w.bottom <= ORIGIN + 65536)
+        & (rows * (width as usize) <= long)
+}
+
+// Whether the window lies in the buffer, and the pixels on the line before its end.
+fn stroke_fits(
+    width: u32,
+    w: Window,
+    from: u32,
+    to: u32,
+    first: usize,
+    n: usize,
+    long: usize,
+) -> bool
+    ensures { λ r. ⌜ r ≡ strokeFits width w (pointOf from) (pointOf to) first n long ⌝ }
+{
+    let steps = line_steps(from, to);
+    let held = window_fits(width, w, long);
+    let left = saturating_sub(steps, n);
+    held & (n <= steps) & (first <= left)
+}
+
+// n pixels of the line from `from` to `to`, its pixel `first` and those after it, on a buffer of rows of `width` pixels.
+pub fn draw_line(
+    buffer: &mut [u8],
+    width: u32,
+    window: Window,
+    pen: Pen,
+    from: u32,
+    to: u32,
+    first: usize,
+    n: usize,
+)
+    ensures { λ _. ⌜ now (buffer .exit) ≡ strokeOf width window pen (pointOf from) (pointOf to) first n (now (buffer .entry)) ⌝ }
+{
+    if !stroke_fits(width, window, from, to, first, n, buffer.len()) {
+        return;
+    }
+    if n == 0 {
+        return;
+    }
+    let start = tracer_at(from, to, first);
+    if ends_shown(window, start, from, to, first + (n - 1)) {
+        draw_shown(buffer, width, pen, start, n);
+    } else {
+        draw_tested(buffer, width, window, pen, start, n);
+    }
+}
+
+// The same in dashes, from a pattern state to the one after them.
+pub fn draw_dashes(
+    buffer: &mut [u8],
+    width: u32,
+    window: Window,
+    dashes: Dashes,
+    start: Pattern,
+    from: u32,
+    to: u32,
+    first: usize,
+    n: usize,
+) -> Pattern
+    ensures { λ r. ⌜ dashed (now (buffer .exit)) r ≡ dashesOf width window dashes (pointOf from) (pointOf to) first n (dashed (now (buffer .entry)) start) ⌝ }
+{
+    if !stroke_fits(width, window, from, to, first, n, buffer.len()) {
+        return start;
+    }
+    if n == 0 {
+        return start;
+    }
+    let tracer = tracer_at(from, to, first);
+    if ends_shown(window, tracer, from, to, first + (n - 1)) {
+        dash_shown(buffer, width, dashes, start, tracer, n)
+    } else {
+        dash_tested(buffer, width, window, dashes, start, tracer, n)
+    }
+}
