@@ -12,11 +12,14 @@ use Rattle.geometry.specs.Coordinates.{origin, pointOf}
 use Rattle.geometry.specs.Blit.{widthOf, rightToLeft, away}
 use Rattle.rows.specs.Rows.{mixed, sweep}
 use Rattle.rows.proofs.Sweeps.{sweep-agree}
-use Rattle.blits.specs.Blits.{inTurn, placeIn, painted, reads, targetAt, sourceAt, drawnAt, visited, seenColumns, targetRow, sourceRow, rowSeen, rowOf, leftEdge}
+use Rattle.lemmas.specs.Turns.{inTurn}
+use Rattle.geometry.specs.Clip.{placeIn}
+use Rattle.blits.specs.Blits.{painted, reads, targetAt, sourceAt, drawnAt, visited, seenColumns, targetRow, sourceRow, rowSeen, rowOf, leftEdge}
 use Rattle.blits.specs.declared.Blit.{Blit}
 use Rattle.blits.specs.declared.Paint.{Paint}
 use Rattle.blits.specs.declared.Paint.the-variants.{Solid, Copied, Moved}
-use Rattle.blits.proofs.Turns.{turn-idle, turn-sweep}
+use Rattle.lemmas.proofs.Turns.{turn-idle}
+use Rattle.blits.proofs.Sweeping.{turn-sweep}
 use Rattle.blits.proofs.Spans.{x-from, visit-drawn, visit-hidden}
 use Rattle.blits.proofs.Rowwise.{RowSeen, row-of, row-by, Within, within-of, within-by, target-is, source-is, seen-drawn, drawn-seen}
 

@@ -1,4 +1,4 @@
-pub mod Turns
+pub mod Sweeping
 pub mod Spans
 pub mod Rowwise
 pub mod Drawn

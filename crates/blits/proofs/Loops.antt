@@ -12,9 +12,10 @@ use lib.ListN.{length}
 use Rattle.lemmas.proofs.Booleans.{by-cases, and-left, and-right}
 use Rattle.geometry.specs.Blit.{widthOf, heightOf, blitCount}
 use Rattle.geometry.proofs.Blits.{factor-pos}
-use Rattle.blits.specs.Blits.{inTurn, visited, windowInside, blitFits, blitted, RowFits}
+use Rattle.lemmas.specs.Turns.{inTurn}
+use Rattle.blits.specs.Blits.{visited, windowInside, blitFits, blitted, RowFits}
 use Rattle.blits.specs.declared.Blit.{Blit}
-use Rattle.blits.proofs.Turns.{turn-none, turn-join, turn-agree}
+use Rattle.lemmas.proofs.Turns.{turn-none, turn-join, turn-agree}
 
 pub record Fitting (b : Blit) (first n other own : ℕ) : Type 0 where
   pub own-area : own ≡ b .width * b .height

@@ -13,7 +13,8 @@ use Rattle.geometry.specs.Coordinates.{origin, pointOf}
 use Rattle.geometry.specs.Blit.{widthOf, rightToLeft, away}
 use Rattle.geometry.specs.declared.Window.{Window}
 use Rattle.geometry.proofs.Clips.{area}
-use Rattle.blits.specs.Blits.{inTurn, reads, visited, windowInside, seenColumns, targetRow, sourceRow, rowSeen, rowOf, leftEdge, RowFits}
+use Rattle.lemmas.specs.Turns.{inTurn}
+use Rattle.blits.specs.Blits.{reads, visited, windowInside, seenColumns, targetRow, sourceRow, rowSeen, rowOf, leftEdge, RowFits}
 use Rattle.blits.specs.declared.Blit.{Blit}
 use Rattle.blits.specs.declared.Columns.{Columns}
 use Rattle.blits.proofs.Spans.{x-from}

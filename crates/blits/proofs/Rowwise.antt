@@ -11,17 +11,19 @@ use lib.Dec.{leb, ltb}
 use lib.ListN.{length, getD, set}
 use Rattle.lemmas.proofs.Booleans.{by-cases, and-left, and-right, both, or-not, not-or}
 use Rattle.geometry.specs.Coordinates.{origin, pointOf}
-use Rattle.geometry.specs.Clip.{inBuffer, inWindow}
+use Rattle.geometry.specs.Clip.{inBuffer, inWindow, placeIn}
 use Rattle.geometry.specs.Blit.{widthOf, bottomToTop, rightToLeft, away, blitPoint}
 use Rattle.geometry.specs.declared.Point.{Point}
 use Rattle.geometry.proofs.Windows.{Shown, buffer-of, buffer-by}
 use Rattle.rows.specs.Rows.{sweep}
 use Rattle.rows.proofs.Sweeps.{sweep-agree}
-use Rattle.blits.specs.Blits.{inTurn, placeIn, painted, reads, targetAt, sourceAt, drawnAt, visited, columnsOf, targetColumns, sourceColumns, inBoth, seenColumns, targetRow, sourceRow, rowSeen, rowOf}
+use Rattle.lemmas.specs.Turns.{inTurn}
+use Rattle.blits.specs.Blits.{painted, reads, targetAt, sourceAt, drawnAt, visited, columnsOf, targetColumns, sourceColumns, inBoth, seenColumns, targetRow, sourceRow, rowSeen, rowOf}
 use Rattle.blits.specs.declared.Blit.{Blit}
 use Rattle.blits.specs.declared.Paint.{Paint}
 use Rattle.blits.specs.declared.Paint.the-variants.{Solid, Copied, Moved}
-use Rattle.blits.proofs.Turns.{turn-agree, turn-sweep}
+use Rattle.lemmas.proofs.Turns.{turn-agree}
+use Rattle.blits.proofs.Sweeping.{turn-sweep}
 use Rattle.blits.proofs.Spans.{columns-in, columns-of, x-from, y-from, point-at, drawn-of, drawn-by, visit-drawn, visit-hidden}
 
 pub record RowSeen (b : Blit) (r : ℕ) : Type 0 where

@@ -12,12 +12,13 @@ use lib.Dec.{leb, ltb}
 use lib.ListN.{length, getD, set}
 use Rattle.lemmas.proofs.Booleans.{by-cases, and-left, and-right, both, or-not, not-or}
 use Rattle.geometry.specs.Coordinates.{origin, pointOf}
-use Rattle.geometry.specs.Clip.{inBuffer, inWindow}
+use Rattle.geometry.specs.Clip.{inBuffer, inWindow, placeIn}
 use Rattle.geometry.specs.Blit.{widthOf, bottomToTop, rightToLeft, away, blitPoint}
 use Rattle.geometry.specs.declared.Point.{Point}
 use Rattle.geometry.specs.declared.Window.{Window}
 use Rattle.geometry.proofs.Windows.{Shown, shown-of, shown-by, buffer-of, buffer-by}
-use Rattle.blits.specs.Blits.{inTurn, placeIn, painted, reads, targetAt, sourceAt, drawnAt, visited, columnsOf}
+use Rattle.lemmas.specs.Turns.{inTurn}
+use Rattle.blits.specs.Blits.{painted, reads, targetAt, sourceAt, drawnAt, visited, columnsOf}
 use Rattle.blits.specs.declared.Blit.{Blit}
 
 -- the columns that are let through

@@ -2,12 +2,13 @@
 use mathlib.Core.Path.{_≡_}
 use mathlib.Core.Bool.{Bool, true, false, not, cond, _&&_, _||_}
 use mathlib.Core.List.{List}
-use Prim.Native.Nat.{ℕ, zero, suc, _+_, _-_, _*_, _≤_, _<_, min, max}
+use Prim.Native.Nat.{ℕ, _+_, _-_, _*_, _≤_, _<_, min, max}
 use lib.Dec.{eqb, leb, ltb}
 use lib.ListN.{length, getD, set}
+use Rattle.lemmas.specs.Turns.{inTurn}
 use Rattle.raster.specs.Selectors.{drawn}
 use Rattle.geometry.specs.Coordinates.{origin, pointOf}
-use Rattle.geometry.specs.Clip.{inBuffer, inWindow}
+use Rattle.geometry.specs.Clip.{placeIn, inBuffer, inWindow}
 use Rattle.geometry.specs.Blit.{widthOf, blitCount, bottomToTop, rightToLeft, away, blitPoint}
 use Rattle.geometry.specs.declared.Point.{Point}
 use Rattle.geometry.specs.declared.Window.{Window}
@@ -16,15 +17,6 @@ use Rattle.blits.specs.declared.Blit.{Blit}
 use Rattle.blits.specs.declared.Paint.{Paint}
 use Rattle.blits.specs.declared.Paint.the-variants.{Solid, Copied, Moved}
 use Rattle.blits.specs.declared.Columns.{Columns}
-
--- f 0, f 1, .. f (n - 1), one after the other.
-unfoldable pub inTurn : (ℕ → List ℕ → List ℕ) → ℕ → List ℕ → List ℕ
-inTurn f zero l = l
-inTurn f (suc n) l = f n (inTurn f n l)
-
--- "pixel (x, y) at y x width + x"
-abbrev pub placeIn : ℕ → Point → ℕ
-placeIn width p = (p .y - origin) * width + (p .x - origin)
 
 -- The new byte of a pixel whose source pixel is at `from` of the other buffer, or of the same as it stands.
 abbrev pub painted : Paint → List ℕ → List ℕ → ℕ → ℕ → ℕ

@@ -14,7 +14,7 @@ use Rattle.raster.specs.Raster.{newByte}
 use Rattle.raster.specs.Selectors.{penOf, drawn, selectorsOf, selected}
 use Rattle.raster.proofs.Wide.{pen-as, selectors-as}
 use Rattle.geometry.specs.Coordinates.{pointOf}
-use Rattle.geometry.specs.Clip.{rectOf, inRect, inBuffer, placeOf, inWindow}
+use Rattle.geometry.specs.Clip.{rectOf, inRect, inBuffer, placeOf, inWindow, placeIn}
 use Rattle.geometry.specs.Blit.{blitCount, blitPoint, blitVisit}
 use Rattle.geometry.specs.declared.Point.{Point}
 use Rattle.geometry.specs.declared.Place.{Place}
@@ -23,7 +23,7 @@ use Rattle.geometry.specs.declared.Visit.the-variants.{At as VisitAt}
 use Rattle.geometry.proofs.Blits.{blit-at}
 use Rattle.geometry.proofs.Windows.{window-lets-through}
 use Rattle.rows.specs.Rows.{mixed}
-use Rattle.blits.specs.Blits.{placeIn, painted, reads, targetAt, sourceAt, drawnAt, visited}
+use Rattle.blits.specs.Blits.{painted, reads, targetAt, sourceAt, drawnAt, visited}
 use Rattle.blits.specs.declared.Paint.{Paint}
 use Rattle.blits.specs.declared.Paint.the-variants.{Solid, Copied, Moved}
 use Rattle.commands.specs.Visits.{commandIn, isBlit, countOf, visitAt, clippedOut, throughTo, targetOf}

@@ -15,7 +15,8 @@ use Rattle.geometry.specs.Blit.{blitCount}
 use Rattle.geometry.specs.declared.Place.{Place}
 use Rattle.raster.specs.Selectors.{penOf}
 use Rattle.blits.specs.declared.Paint.the-variants.{Solid, Copied, Moved}
-use Rattle.blits.specs.Blits.{inTurn, visited, windowInside, blitFits, blitted}
+use Rattle.lemmas.specs.Turns.{inTurn}
+use Rattle.blits.specs.Blits.{visited, windowInside, blitFits, blitted}
 use Rattle.blits.proofs.Loops.{blit-in}
 use Rattle.entries.specs.declared.fields.Command.{Command}
 use Rattle.commands.specs.Visits.{commandIn, isBlit, isLine, countOf, targetOf}

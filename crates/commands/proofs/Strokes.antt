@@ -6,15 +6,15 @@ use mathlib.Core.List.{List}
 use Prim.Native.Nat.{ℕ, zero, suc, _+_, _-_, _*_, _%_, _≤_, _<_, min, max}
 use native.Mathlib.Nat.{mul-le-mul-left, mul-comm}
 use native.Mathlib.Omega.{arith}
-use borrow.Author.Tests.{eqb-true, leb-true, ltb-true, lt-ltb, le-leb, not-true}
+use borrow.Author.Tests.{eqb-true, leb-true, ltb-true, lt-ltb, le-leb}
 use lib.Dec.{eqb, ltb, leb}
 use lib.ListN.{length, getD, set}
-use Rattle.lemmas.proofs.Booleans.{by-cases, both, and-left, and-right, or-first}
+use Rattle.lemmas.proofs.Booleans.{by-cases, both, and-left, and-right}
 use Rattle.raster.specs.Selectors.{drawn}
 use Rattle.raster.specs.declared.Pen.{Pen}
 use Rattle.raster.proofs.Wide.{pen-as}
 use Rattle.geometry.specs.Coordinates.{origin, pointOf}
-use Rattle.geometry.specs.Clip.{rectOf, windowOf, inWindow}
+use Rattle.geometry.specs.Clip.{rectOf, windowOf, inWindow, placeIn}
 use Rattle.geometry.specs.Line.{stepsOf, lineCount, linePoint, lineVisit}
 use Rattle.geometry.specs.declared.Point.{Point}
 use Rattle.geometry.specs.declared.Window.{Window}
@@ -26,7 +26,7 @@ use Rattle.entries.specs.Fields.{patternControlOf}
 use Rattle.entries.specs.declared.fields.Command.{Command}
 use Rattle.registers.specs.Patterns.{patternBit, nextOf}
 use Rattle.registers.specs.declared.dashes.Pattern.{Pattern}
-use Rattle.strokes.specs.Strokes.{placeIn, plotted, pixelsOf, windowFits, strokeFits, strokeOf, Dashed, dashed, dash, dashPixels, dashesOf}
+use Rattle.strokes.specs.Strokes.{plotted, pixelsOf, windowFits, strokeFits, strokeOf, Dashed, dashed, dash, dashPixels, dashesOf}
 use Rattle.strokes.proofs.Drawn.{stroke-fit, dashes-fit}
 use Rattle.commands.specs.Visits.{commandIn, isBlit, isLine, lineStart, countOf, visitAt, targetOf}
 use Rattle.commands.specs.Sources.{dashOf, sourceOf}
@@ -106,21 +106,27 @@ module _ (e : Engine) (width height : ℕ) (line : isLine (commandIn e) ≡ true
     unfolding patternAfter
     solid-pattern s = rw (line, s)
 
-    -- in dashes of both bits
-    dash-mark : commandIn e .solid ≡ false → commandIn e .trnsp ≡ false → (d v l : List ℕ)
+    -- in dashes
+    dash-mark : commandIn e .solid ≡ false → (d v l : List ℕ)
         → inked here (sourceOf here width height (e .visited + k) d v) (targetOf here width height (e .visited + k)) l
         ≡ dash width window (dashesIn e) (point k) (dashed l q) .buffer
     unfolding sourceOf dashOf dash
-    dash-mark s t d v l =
-        rw (s, not-blit (commandIn e) line, t)
-        (ap (λ p. inked here (cond (patternBit (e .registers .lpat) q) (Value (e .registers .fore)) (Value (e .registers .back))) p l) place-is
-        ∙ by (patternBit (e .registers .lpat) q))
+    dash-mark s d v l =
+        rw (s, not-blit (commandIn e) line)
+        (ap
+        (λ p.
+        inked here
+        (cond (patternBit (e .registers .lpat) q) (Value (e .registers .fore)) (cond (commandIn e .trnsp) Nothing (Value (e .registers .back)))) p l)
+        place-is
+        ∙ by (patternBit (e .registers .lpat) q) (commandIn e .trnsp))
       where
-        by : (b : Bool)
-            → inked here (cond b (Value (e .registers .fore)) (Value (e .registers .back))) (cond (inWindow window (point k)) (At (placeIn width (point k))) Outside) l
-            ≡ plotted width window (cond b (penIn e (e .registers .fore)) (penIn e (e .registers .back))) (point k) l
-        by true = ink-plots here (e .registers .fore) width height (point k) l
-        by false = ink-plots here (e .registers .back) width height (point k) l
+        by : (b t : Bool)
+            → inked here (cond b (Value (e .registers .fore)) (cond t Nothing (Value (e .registers .back))))
+            (cond (inWindow window (point k)) (At (placeIn width (point k))) Outside) l
+            ≡ cond (not b && t) l (plotted width window (cond b (penIn e (e .registers .fore)) (penIn e (e .registers .back))) (point k) l)
+        by true t = ink-plots here (e .registers .fore) width height (point k) l
+        by false true = refl
+        by false false = ink-plots here (e .registers .back) width height (point k) l
 
     dash-pattern : commandIn e .solid ≡ false → (l : List ℕ)
         → patternAfter here (targetOf here width height (e .visited + k)) ≡ dash width window (dashesIn e) (point k) (dashed l q) .pattern
@@ -192,11 +198,11 @@ module _ (e : Engine) (width height : ℕ) (line : isLine (commandIn e) ≡ true
         patterns = λ k few. solid-pattern k (e .pattern) few s;
       }
 
-  dash-strokes : commandIn e .solid ≡ false → commandIn e .trnsp ≡ false → (l : List ℕ) → Strokes (dashState l)
+  dash-strokes : commandIn e .solid ≡ false → (l : List ℕ) → Strokes (dashState l)
   unfolding dashPixels
-  dash-strokes s t l =
+  dash-strokes s l =
       record {
-        buffers = λ k d v few. dash-mark k (dashState l k .pattern) few s t d v (dashState l k .buffer);
+        buffers = λ k d v few. dash-mark k (dashState l k .pattern) few s d v (dashState l k .buffer);
         patterns = λ k few. dash-pattern k (dashState l k .pattern) few s (dashState l k .buffer);
       }
 
@@ -204,7 +210,6 @@ module _ (e : Engine) (width height : ℕ) (line : isLine (commandIn e) ≡ true
 pub record Goes (e : Engine) (n width height display virt : ℕ) : Type 0 where
   pub under-way : e .«under_way» ≡ true
   pub line : isLine (commandIn e) ≡ true
-  pub kind : (commandIn e .solid || not (commandIn e .trnsp)) ≡ true
   pub few : e .visited + n < countOf e
   pub tall : height ≤ 65536
   pub display-long : display ≡ width * height
@@ -215,24 +220,21 @@ unfolding goesByStroke
 goes-of e n width height display virt h =
     let c1 = e .«under_way» in
     let c2 = isLine (commandIn e) in
-    let c3 = commandIn e .solid || not (commandIn e .trnsp) in
-    let c4 = ltb (e .visited + n) (countOf e) in
-    let c5 = leb height 65536 in
-    let c6 = eqb display (width * height) in
-    let c7 = eqb virt (width * height) in
-    let h6 = and-left (c1 && c2 && c3 && c4 && c5 && c6) c7 h in
-    let h5 = and-left (c1 && c2 && c3 && c4 && c5) c6 h6 in
+    let c3 = ltb (e .visited + n) (countOf e) in
+    let c4 = leb height 65536 in
+    let c5 = eqb display (width * height) in
+    let c6 = eqb virt (width * height) in
+    let h5 = and-left (c1 && c2 && c3 && c4 && c5) c6 h in
     let h4 = and-left (c1 && c2 && c3 && c4) c5 h5 in
     let h3 = and-left (c1 && c2 && c3) c4 h4 in
     let h2 = and-left (c1 && c2) c3 h3 in
     record {
       under-way = and-left c1 c2 h2;
       line = and-right c1 c2 h2;
-      kind = and-right (c1 && c2) c3 h3;
-      few = ltb-true (e .visited + n) (countOf e) (and-right (c1 && c2 && c3) c4 h4);
-      tall = leb-true height 65536 (and-right (c1 && c2 && c3 && c4) c5 h5);
-      display-long = eqb-true display (width * height) (and-right (c1 && c2 && c3 && c4 && c5) c6 h6);
-      virt-long = eqb-true virt (width * height) (and-right (c1 && c2 && c3 && c4 && c5 && c6) c7 h);
+      few = ltb-true (e .visited + n) (countOf e) (and-right (c1 && c2) c3 h3);
+      tall = leb-true height 65536 (and-right (c1 && c2 && c3) c4 h4);
+      display-long = eqb-true display (width * height) (and-right (c1 && c2 && c3 && c4) c5 h5);
+      virt-long = eqb-true virt (width * height) (and-right (c1 && c2 && c3 && c4 && c5) c6 h);
     }
 
 -- a window fits its buffer
@@ -280,7 +282,7 @@ module _ (e : Engine) (n width height : ℕ) (d v : List ℕ) (g : Goes e n widt
   -- the state that the loops leave
   stroke-is : (P : Dashed → Type 0) (l : List ℕ) → length l ≡ width * height → s ≡ strokeIn e width height n l
       → (commandIn e .solid ≡ true → P (solidState e width height (g .line) l n))
-      → (commandIn e .solid ≡ false → commandIn e .trnsp ≡ false → P (dashState e width height (g .line) l n)) → P s
+      → (commandIn e .solid ≡ false → P (dashState e width height (g .line) l n)) → P s
   unfolding strokeIn
   stroke-is P l long h solid dashes =
       let fit = stroke-fits e n width height (length l) (g .line) (g .few) (g .tall) long in
@@ -295,7 +297,7 @@ module _ (e : Engine) (n width height : ℕ) (d v : List ℕ) (g : Goes e n widt
       (λ t.
       subst P
       (dashes-fit width w (dashesIn e) a b (e .visited) n (dashed l (e .pattern)) _ fit refl ∙ sym (h ∙ ap (λ t. cond t line dotted) t))
-      (dashes t (not-true (commandIn e .trnsp) (or-first (commandIn e .solid) (not (commandIn e .trnsp)) (g .kind) t))))
+      (dashes t))
 
   abbrev ends : Dashed → Engine
   ends s = movedTo e n (s .pattern)
@@ -306,7 +308,7 @@ module _ (e : Engine) (n width height : ℕ) (d v : List ℕ) (g : Goes e n widt
       (λ i. scene (record { «under_way» = true; visited = k-is i; registers = e .registers; pattern = s .pattern; last = e .last }) d (s .buffer))
       ∙ stroke-is (λ s. scene (ends s) d (s .buffer) ≡ visitsOf n width height (scene e d v)) v (g .virt-long) h
       (λ t. sym (on-virtual e width height (g .line) (g .under-way) (solidState e width height (g .line) v) d (solid-strokes e width height (g .line) t v) refl to n (g .few)))
-      (λ t u. sym (on-virtual e width height (g .line) (g .under-way) (dashState e width height (g .line) v) d (dash-strokes e width height (g .line) t u v) refl to n (g .few)))
+      (λ t. sym (on-virtual e width height (g .line) (g .under-way) (dashState e width height (g .line) v) d (dash-strokes e width height (g .line) t v) refl to n (g .few)))
 
   pub stroke-display : commandIn e .«to_virtual» ≡ false → s ≡ strokeIn e width height n d → scene after (s .buffer) v ≡ visitsOf n width height (scene e d v)
   unfolding pixelsOf dashPixels
@@ -314,7 +316,7 @@ module _ (e : Engine) (n width height : ℕ) (d v : List ℕ) (g : Goes e n widt
       (λ i. scene (record { «under_way» = true; visited = k-is i; registers = e .registers; pattern = s .pattern; last = e .last }) (s .buffer) v)
       ∙ stroke-is (λ s. scene (ends s) (s .buffer) v ≡ visitsOf n width height (scene e d v)) d (g .display-long) h
       (λ t. sym (on-display e width height (g .line) (g .under-way) (solidState e width height (g .line) d) v (solid-strokes e width height (g .line) t d) refl to n (g .few)))
-      (λ t u. sym (on-display e width height (g .line) (g .under-way) (dashState e width height (g .line) d) v (dash-strokes e width height (g .line) t u d) refl to n (g .few)))
+      (λ t. sym (on-display e width height (g .line) (g .under-way) (dashState e width height (g .line) d) v (dash-strokes e width height (g .line) t d) refl to n (g .few)))
 
 -- the two kinds of strokes, by the decoded command
 module _ (e : Engine) (c : Command) (is : c ≡ commandIn e) (width height n : ℕ) (l : List ℕ) where

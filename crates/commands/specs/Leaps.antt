@@ -1,5 +1,5 @@
 -- Many visits of one command at once: what the row loops are given. The visits themselves are those of Steps.
-use mathlib.Core.Bool.{Bool, true, not, cond, _&&_, _||_}
+use mathlib.Core.Bool.{Bool, true, cond, _&&_}
 use mathlib.Core.List.{List}
 use Prim.Native.Nat.{ℕ, _+_, _*_, _%_}
 use lib.Dec.{eqb, leb, ltb}
@@ -76,6 +76,7 @@ dashesIn e =
       lpat = e .registers .lpat;
       fore = penIn e (e .registers .fore);
       back = penIn e (e .registers .back);
+      clear = commandIn e .trnsp;
       control = patternControlOf (e .registers .pctrl);
     }
 
@@ -92,12 +93,11 @@ strokeIn e width height n l =
     (dashesOf width w (dashesIn e) a b (e .visited) n (dashed l (e .pattern)))
 
 -- Whether n visits can go by a line's error term: a line under way with more than n pixels left, on buffers of width x height
--- bytes, that is solid or draws both bits of its pattern.
+-- bytes.
 unfoldable pub goesByStroke : Engine → ℕ → ℕ → ℕ → ℕ → ℕ → Bool
 goesByStroke e n width height display virt =
     e .«under_way»
     && isLine (commandIn e)
-    && (commandIn e .solid || not (commandIn e .trnsp))
     && ltb (e .visited + n) (countOf e)
     && leb height 65536
     && eqb display (width * height)

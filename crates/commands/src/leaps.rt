@@ -151,6 +151,7 @@ impl Engine {
             lpat: g.lpat,
             fore,
             back,
+            clear: c.trnsp,
             control: pattern_control_of(g.pctrl),
         };
         draw_dashes(buffer, width, window, dashes, p, start, g.xy1, first, n)
@@ -167,7 +168,6 @@ impl Engine {
         let first = self.visited as usize;
         self.under_way
             & line
-            & (c.solid | !c.trnsp)
             & ((n < count) & (first < count - smaller(n, count)))
             & (height <= 65536)
             & (display == area)

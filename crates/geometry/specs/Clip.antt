@@ -30,8 +30,11 @@ abbrev pub inBuffer : ℕ → ℕ → Point → Bool
 inBuffer width height p = leb origin (p .x) && leb origin (p .y) && ltb (p .x - origin) width && ltb (p .y - origin) height
 
 -- "pixel (x, y) at y x width + x"; outside the buffer a point has no place
+abbrev pub placeIn : ℕ → Point → ℕ
+placeIn width p = (p .y - origin) * width + (p .x - origin)
+
 unfoldable pub placeOf : ℕ → ℕ → Point → Place
-placeOf width height p = cond (inBuffer width height p) (At ((p .y - origin) * width + (p .x - origin))) Outside
+placeOf width height p = cond (inBuffer width height p) (At (placeIn width p)) Outside
 
 -- What clip and buffer let through, as one window: left <= x < right and top <= y < bottom.
 unfoldable pub windowOf : ℕ → ℕ → Bool → ℕ → ℕ → Window

@@ -16,9 +16,10 @@ use Rattle.raster.specs.declared.Pen.{Pen}
 use Rattle.geometry.specs.Coordinates.{origin}
 use Rattle.registers.specs.Patterns.{patternBit, nextOf}
 use Rattle.registers.specs.declared.dashes.Pattern.{Pattern}
-use Rattle.strokes.specs.Strokes.{placeIn, Dashed, dashed}
-use Rattle.strokes.specs.Turns.{inTurn}
-use Rattle.strokes.specs.Tracers.{Room, stepped, pointOn, RoomBoth, traced, tracerAfter, Runs}
+use Rattle.geometry.specs.Clip.{placeIn}
+use Rattle.strokes.specs.Strokes.{Dashed, dashed}
+use Rattle.lemmas.specs.Turns.{inTurn}
+use Rattle.strokes.specs.Tracers.{Room, stepped, pointOn, RoomBoth, traced, tracerAfter, Runs, dashPen}
 use Rattle.strokes.specs.Cursors.{moved, Moves, cursorAfter, courseBy, courseOf, Places, mark, dashMark, markAt, dashMarkAt, markOn, dashMarkOn, Stretch}
 use Rattle.strokes.specs.declared.Dashes.{Dashes}
 use Rattle.strokes.specs.declared.tracing.Stepper.{Stepper}
@@ -26,7 +27,8 @@ use Rattle.strokes.specs.declared.tracing.Tracer.{Tracer}
 use Rattle.strokes.specs.declared.cursors.Cursor.{Cursor}
 use Rattle.strokes.specs.declared.cursors.Strides.{Strides}
 use Rattle.strokes.specs.declared.cursors.Course.{Course}
-use Rattle.strokes.proofs.Turns.{turn-more, turn-agree}
+use Rattle.lemmas.proofs.Turns.{turn-more, turn-agree}
+use Rattle.strokes.proofs.Plots.{clear-mark, pen-draws}
 
 -- a coordinate's step, in places
 shift : (c up down m r : ℕ) → down ≤ c + up → c * m + r + up * m - down * m ≡ (c + up - down) * m + r
@@ -265,8 +267,10 @@ module _ (s : Strides) (start c : Cursor) (j : ℕ) (at : c ≡ cursorAfter s st
   cursor-more u f = turn-more (λ _. moved s) start j c u at f
 
 pub dash-mark-of : (d : Dashes) (place : ℕ) (l : List ℕ) (q r : Pattern) (pen : Pen) (new : ℕ)
-    → pen ≡ cond (patternBit (d .lpat) q) (d .fore) (d .back) → new ≡ drawn pen (getD l place 0) → r ≡ nextOf (d .control) q
+    → ((k : ℕ) → getD l k 0 < 256) → pen ≡ dashPen d q → new ≡ drawn pen (getD l place 0) → r ≡ nextOf (d .control) q
     → dashed (set l place new) r ≡ dashMark d place (dashed l q)
 unfolding dashMark
-dash-mark-of d place l q r pen new e f g =
-    λ i. dashed ((ap (λ (b : ℕ). set l place b) f ∙ ap (λ (k : Pen). mark k place l) e) i) (g i)
+dash-mark-of d place l q r pen new h e f g =
+    let draw : Pen → List ℕ = λ k. mark k place l in
+    let drew = ap (set l place) f ∙ ap draw e ∙ pen-draws (patternBit (d .lpat) q) (d .clear) (d .fore) (d .back) draw l (clear-mark place l (h place)) in
+    λ i. dashed (drew i) (g i)

@@ -17,12 +17,12 @@ use Rattle.geometry.specs.Line.{distance, stepsOf, linePoint, xMajor}
 use Rattle.geometry.specs.declared.Point.{Point}
 use Rattle.geometry.specs.declared.Window.{Window}
 use Rattle.strokes.specs.Strokes.{windowFits, strokeFits, pixelsOf, strokeOf, Dashed, dashPixels, dashesOf}
-use Rattle.strokes.specs.Turns.{inTurn}
+use Rattle.lemmas.specs.Turns.{inTurn}
 use Rattle.strokes.specs.Tracers.{pointOn, Traces, RoomBoth, tracerAfter, Runs, traced, plotAt, dashAt}
 use Rattle.strokes.specs.Cursors.{markOn, dashMarkOn, Stretch}
 use Rattle.strokes.specs.declared.Dashes.{Dashes}
 use Rattle.strokes.specs.declared.tracing.Tracer.{Tracer}
-use Rattle.strokes.proofs.Turns.{turn-none, turn-agree}
+use Rattle.lemmas.proofs.Turns.{turn-none, turn-agree}
 use Rattle.strokes.proofs.Between.{between}
 use Rattle.strokes.proofs.Traced.{traces-point, traces-run, pixel, traced-pixels, traced-dashes}
 use Rattle.strokes.proofs.Fitting.{placed}

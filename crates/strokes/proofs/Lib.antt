@@ -1,4 +1,3 @@
-pub mod Turns
 pub mod Terms
 pub mod Between
 pub mod Traced

@@ -1,20 +1,38 @@
 -- One pixel, by whether the window lets it through.
 -- Assumes nothing.
-use mathlib.Core.Path.{_≡_, ap, _∙_}
-use mathlib.Core.Bool.{Bool, true, false, cond}
+use mathlib.Core.Path.{_≡_, refl, ap, _∙_}
+use mathlib.Core.Bool.{Bool, true, false, cond, not, _&&_}
 use mathlib.Core.List.{List}
-use Prim.Native.Nat.{ℕ}
+use Prim.Native.Nat.{ℕ, _<_}
+use native.Mathlib.Nat.{mod-eq-of-lt}
+use lib.Bits.{bitAnd, xor-zero-r, and-mask}
 use lib.ListN.{getD, set}
+use lib.Seq.{set-getD}
+use Rattle.lemmas.proofs.Booleans.{by-cases}
 use Rattle.raster.specs.Selectors.{drawn}
 use Rattle.raster.specs.declared.Pen.{Pen}
-use Rattle.geometry.specs.Clip.{inWindow}
+use Rattle.geometry.specs.Clip.{inWindow, placeIn}
 use Rattle.geometry.specs.declared.Point.{Point}
 use Rattle.geometry.specs.declared.Window.{Window}
 use Rattle.registers.specs.Patterns.{patternBit, nextOf}
 use Rattle.registers.specs.declared.dashes.Pattern.{Pattern}
-use Rattle.strokes.specs.Strokes.{placeIn, plotted, Dashed, dashed, dash}
-use Rattle.strokes.specs.Cursors.{dashMark}
+use Rattle.strokes.specs.Strokes.{plotted, Dashed, dashed, dash}
+use Rattle.strokes.specs.Tracers.{clearPen, dashPen}
+use Rattle.strokes.specs.Cursors.{mark, dashMark}
 use Rattle.strokes.specs.declared.Dashes.{Dashes}
+
+clear-drawn : (x : ℕ) → x < 256 → drawn clearPen x ≡ x
+clear-drawn x h = xor-zero-r (bitAnd x 255) ∙ and-mask x 8 ∙ mod-eq-of-lt h
+
+pub clear-mark : (place : ℕ) (l : List ℕ) → getD l place 0 < 256 → mark clearPen place l ≡ l
+clear-mark place l h = ap (set l place) (clear-drawn (getD l place 0) h) ∙ set-getD l place 0
+
+-- what the chosen pen draws, where the clear pen draws nothing
+pub pen-draws : (t c : Bool) (fore back : Pen) (f : Pen → List ℕ) (l : List ℕ) → f clearPen ≡ l
+    → f (cond t fore (cond c clearPen back)) ≡ cond (not t && c) l (f (cond t fore back))
+pen-draws true c fore back f l e = refl
+pen-draws false true fore back f l e = e
+pen-draws false false fore back f l e = refl
 
 module _ (width : ℕ) (w : Window) (p : Point) (l : List ℕ) where
   pub plot-hidden : (pen : Pen) → inWindow w p ≡ false → l ≡ plotted width w pen p l
@@ -26,10 +44,17 @@ module _ (width : ℕ) (w : Window) (p : Point) (l : List ℕ) where
   unfolding plotted
   plot-shown pen new h e = rw (h, e)
 
-  pub dash-of : (d : Dashes) (q r : Pattern) (pen : Pen) (s : List ℕ) → pen ≡ cond (patternBit (d .lpat) q) (d .fore) (d .back)
+  clear-plot : getD l (placeIn width p) 0 < 256 → plotted width w clearPen p l ≡ l
+  unfolding plotted
+  clear-plot h = by-cases (inWindow w p) (λ t. rw t (clear-mark (placeIn width p) l h)) (λ t. rw t refl)
+
+  pub dash-of : (d : Dashes) (q r : Pattern) (pen : Pen) (s : List ℕ) → ((k : ℕ) → getD l k 0 < 256) → pen ≡ dashPen d q
       → s ≡ plotted width w pen p l → r ≡ cond (inWindow w p) (nextOf (d .control) q) q → dashed s r ≡ dash width w d p (dashed l q)
   unfolding dash
-  dash-of d q r pen s e f g = λ i. dashed ((f ∙ ap (λ (k : Pen). plotted width w k p l) e) i) (g i)
+  dash-of d q r pen s h e f g =
+      let draw : Pen → List ℕ = λ k. plotted width w k p l in
+      let drew = f ∙ ap draw e ∙ pen-draws (patternBit (d .lpat) q) (d .clear) (d .fore) (d .back) draw l (clear-plot (h (placeIn width p))) in
+      λ i. dashed (drew i) (g i)
 
 pub dash-mark-shown : (width : ℕ) (w : Window) (p : Point) (d : Dashes) (s : Dashed) → inWindow w p ≡ true
     → dashMark d (placeIn width p) s ≡ dash width w d p s

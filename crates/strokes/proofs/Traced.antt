@@ -12,13 +12,13 @@ use Rattle.geometry.specs.declared.Window.{Window}
 use Rattle.geometry.proofs.Whole.{x-within, y-within}
 use Rattle.geometry.proofs.Lines.{steps-lt}
 use Rattle.strokes.specs.Strokes.{plotted, pixelsOf, Dashed, dash, dashPixels}
-use Rattle.strokes.specs.Turns.{inTurn}
+use Rattle.lemmas.specs.Turns.{inTurn}
 use Rattle.strokes.specs.Tracers.{On, pointOn, Traces, RoomBoth, traced, tracerAfter, Runs, plotAt, dashAt}
 use Rattle.strokes.specs.declared.Dashes.{Dashes}
 use Rattle.strokes.specs.declared.tracing.Stepper.{Stepper}
 use Rattle.strokes.specs.declared.tracing.Tracer.{Tracer}
 use Rattle.strokes.proofs.Terms.{on-nearest, on-next, on-room}
-use Rattle.strokes.proofs.Turns.{turn-more, turn-agree}
+use Rattle.lemmas.proofs.Turns.{turn-more, turn-agree}
 
 pub traces-of : (a b p q : Point) (n i : ℕ) (x y : Stepper) → p ≡ a → q ≡ b → n ≡ stepsOf a b
     → On n i (p .x) (q .x) x → On n i (p .y) (q .y) y → Traces a b i (record { x = x; y = y; full = 2 * n })

@@ -1,6 +1,6 @@
 -- The places of a stretch of a line that the window lets through whole.
 use mathlib.Core.Path.{_≡_}
-use mathlib.Core.Bool.{cond}
+use mathlib.Core.Bool.{cond, not, _&&_}
 use mathlib.Core.List.{List}
 use mathlib.Core.Logic.{_⊎_}
 use Prim.Native.Nat.{ℕ, _+_, _-_, _*_, _≤_, _<_}
@@ -11,8 +11,9 @@ use Rattle.raster.specs.declared.Pen.{Pen}
 use Rattle.geometry.specs.Coordinates.{origin}
 use Rattle.geometry.specs.declared.Point.{Point}
 use Rattle.registers.specs.Patterns.{patternBit, nextOf}
-use Rattle.strokes.specs.Strokes.{placeIn, Dashed}
-use Rattle.strokes.specs.Turns.{inTurn}
+use Rattle.geometry.specs.Clip.{placeIn}
+use Rattle.strokes.specs.Strokes.{Dashed}
+use Rattle.lemmas.specs.Turns.{inTurn}
 use Rattle.strokes.specs.Tracers.{pointOn, tracerAfter, Runs}
 use Rattle.strokes.specs.declared.Dashes.{Dashes}
 use Rattle.strokes.specs.declared.tracing.Stepper.{Stepper}
@@ -79,7 +80,9 @@ mark pen place l = set l place (drawn pen (getD l place 0))
 unfoldable pub dashMark : Dashes → ℕ → Dashed → Dashed
 dashMark d place s =
     record {
-      buffer = mark (cond (patternBit (d .lpat) (s .pattern)) (d .fore) (d .back)) place (s .buffer);
+      buffer =
+          cond (not (patternBit (d .lpat) (s .pattern)) && d .clear) (s .buffer)
+          (mark (cond (patternBit (d .lpat) (s .pattern)) (d .fore) (d .back)) place (s .buffer));
       pattern = nextOf (d .control) (s .pattern);
     }
 

@@ -1,4 +1,3 @@
 pub mod Strokes
-pub mod Turns
 pub mod Tracers
 pub mod Cursors

@@ -1,5 +1,5 @@
 -- Many pixels of a line (01, Pixels), in the order of their visits.
-use mathlib.Core.Bool.{Bool, cond, _&&_}
+use mathlib.Core.Bool.{Bool, cond, not, _&&_}
 use mathlib.Core.List.{List}
 use Prim.Native.Nat.{ℕ, zero, suc, _+_, _-_, _*_}
 use lib.Dec.{leb}
@@ -7,17 +7,13 @@ use lib.ListN.{length, getD, set}
 use Rattle.raster.specs.Selectors.{drawn}
 use Rattle.raster.specs.declared.Pen.{Pen}
 use Rattle.geometry.specs.Coordinates.{origin}
-use Rattle.geometry.specs.Clip.{inWindow}
+use Rattle.geometry.specs.Clip.{placeIn, inWindow}
 use Rattle.geometry.specs.Line.{stepsOf, linePoint}
 use Rattle.geometry.specs.declared.Point.{Point}
 use Rattle.geometry.specs.declared.Window.{Window}
 use Rattle.registers.specs.Patterns.{patternBit, nextOf}
 use Rattle.registers.specs.declared.dashes.Pattern.{Pattern}
 use Rattle.strokes.specs.declared.Dashes.{Dashes}
-
--- "pixel (x, y) at y x width + x"
-abbrev pub placeIn : ℕ → Point → ℕ
-placeIn width p = (p .y - origin) * width + (p .x - origin)
 
 -- One pixel, where the window lets it through.
 unfoldable pub plotted : ℕ → Window → Pen → Point → List ℕ → List ℕ
@@ -52,11 +48,13 @@ pub record Dashed : Type 0 where
 abbrev pub dashed : List ℕ → Pattern → Dashed
 dashed l q = record { buffer = l; pattern = q }
 
--- One pixel of a dashed line: the pattern's bit chooses the pen, and the pattern moves where the pixel is let through.
+-- One pixel of a dashed line: the pattern's bit chooses the pen, a 0 bit draws nothing where the dashes are clear, and the pattern moves where the pixel is let through.
 unfoldable pub dash : ℕ → Window → Dashes → Point → Dashed → Dashed
 dash width w d p s =
     record {
-      buffer = plotted width w (cond (patternBit (d .lpat) (s .pattern)) (d .fore) (d .back)) p (s .buffer);
+      buffer =
+          cond (not (patternBit (d .lpat) (s .pattern)) && d .clear) (s .buffer)
+          (plotted width w (cond (patternBit (d .lpat) (s .pattern)) (d .fore) (d .back)) p (s .buffer));
       pattern = cond (inWindow w p) (nextOf (d .control) (s .pattern)) (s .pattern);
     }
 

@@ -10,8 +10,10 @@ use Rattle.geometry.specs.Clip.{inWindow}
 use Rattle.geometry.specs.Line.{exact, distance, stepsOf, linePoint}
 use Rattle.geometry.specs.declared.Point.{Point}
 use Rattle.geometry.specs.declared.Window.{Window}
+use Rattle.registers.specs.Patterns.{patternBit}
+use Rattle.registers.specs.declared.dashes.Pattern.{Pattern}
 use Rattle.strokes.specs.Strokes.{plotted, Dashed, dash}
-use Rattle.strokes.specs.Turns.{inTurn}
+use Rattle.lemmas.specs.Turns.{inTurn}
 use Rattle.strokes.specs.declared.Dashes.{Dashes}
 use Rattle.strokes.specs.declared.tracing.Stepper.{Stepper}
 use Rattle.strokes.specs.declared.tracing.Tracer.{Tracer}
@@ -91,6 +93,13 @@ plotAt width w pen t k = plotted width w pen (pointOn (tracerAfter t k))
 
 abbrev pub dashAt : ℕ → Window → Dashes → Tracer → ℕ → Dashed → Dashed
 dashAt width w d t k = dash width w d (pointOn (tracerAfter t k))
+
+-- The pen of a dash's pixel. A byte drawn with the clear pen is as it was.
+abbrev pub clearPen : Pen
+clearPen = record { keep = 255; flip = 0 }
+
+abbrev pub dashPen : Dashes → Pattern → Pen
+dashPen d q = cond (patternBit (d .lpat) q) (d .fore) (cond (d .clear) clearPen (d .back))
 
 -- Where a window lets through both ends of a stretch of a line, it lets through all of it; proved in proofs/Between.antt.
 abbrev pub Between : Type 0

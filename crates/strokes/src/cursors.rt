@@ -3,7 +3,7 @@ ghost use mathlib.Core.Path.{_≡_};
 ghost use Prim.Native.Nat.{_≤_, _<_};
 ghost use lib.ListN.{length};
 ghost use Rattle.strokes.specs.Strokes.{dashed};
-ghost use Rattle.strokes.specs.Turns.{inTurn};
+ghost use Rattle.lemmas.specs.Turns.{inTurn};
 ghost use Rattle.strokes.specs.Tracers.{Room, RoomBoth};
 ghost use Rattle.strokes.specs.Cursors.{Moves, moved, courseBy, courseOf, Places, markAt, dashMark, dashMarkAt, Stretch, markOn, dashMarkOn};
 use crate::Dashes;

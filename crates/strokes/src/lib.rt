@@ -20,11 +20,12 @@ use geometry::line_steps;
 use raster::Pen;
 use registers::Pattern;
 
-// What a dashed line draws with: LPAT, a pen for each of its bits, and PCTRL's length and scale.
+// What a dashed line draws with: LPAT, a pen for each of its bits, whether 0 bits draw nothing, and PCTRL's length and scale.
 pub struct Dashes {
     pub lpat: u32,
     pub fore: Pen,
     pub back: Pen,
+    pub clear: bool,
     pub control: PatternControl,
 }
 

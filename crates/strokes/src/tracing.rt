@@ -1,15 +1,14 @@
 // A line's pixels one after another, each tested against the window.
 ghost use mathlib.Core.Path.{_≡_};
-ghost use mathlib.Core.Bool.{true, cond, _&&_};
+ghost use mathlib.Core.Bool.{true, _&&_};
 ghost use Prim.Native.Nat.{_≤_, _<_};
 ghost use lib.ListN.{length};
 ghost use Rattle.geometry.specs.Coordinates.{pointOf};
 ghost use Rattle.geometry.specs.Clip.{inWindow};
 ghost use Rattle.geometry.specs.Line.{distance, stepsOf, linePoint};
-ghost use Rattle.registers.specs.Patterns.{patternBit};
 ghost use Rattle.strokes.specs.Strokes.{windowFits, plotted, dashed, dash};
-ghost use Rattle.strokes.specs.Turns.{inTurn};
-ghost use Rattle.strokes.specs.Tracers.{On, Room, stepped, pointOn, Traces, RoomBoth, traced, Runs, plotAt, dashAt};
+ghost use Rattle.lemmas.specs.Turns.{inTurn};
+ghost use Rattle.strokes.specs.Tracers.{On, Room, stepped, pointOn, Traces, RoomBoth, traced, Runs, plotAt, dashAt, dashPen};
 use crate::Dashes;
 use geometry::ORIGIN;
 use geometry::Point;
@@ -160,11 +159,17 @@ pub fn draw_tested(buffer: &mut [u8], width: u32, window: Window, pen: Pen, star
     }
 }
 
-// The pen that the pattern chooses.
+// The pen that the pattern chooses: for a 0 bit that draws nothing, one that leaves a byte as it is.
 pub fn pen_at(d: Dashes, state: Pattern) -> Pen
-    ensures { λ r. ⌜ r ≡ cond (patternBit (d .lpat) state) (d .fore) (d .back) ⌝ }
+    ensures { λ r. ⌜ r ≡ dashPen d state ⌝ }
 {
-    if state.bit(d.lpat) { d.fore } else { d.back }
+    if state.bit(d.lpat) {
+        return d.fore;
+    }
+    if d.clear {
+        return Pen { keep: 255, flip: 0 };
+    }
+    d.back
 }
 
 // One pixel of a dashed line: the pattern moves where the window lets the pixel through.

@@ -6,8 +6,9 @@ use native.Mathlib.Omega.{arith}
 use lib.ListN.{length}
 use Rattle.geometry.specs.Blit.{widthOf}
 use Rattle.geometry.proofs.Blits.{count-lt}
-use Rattle.blits.specs.Blits.{inTurn, visited, seenColumns, RowFits}
-use Rattle.blits.proofs.Turns.{turn-none}
+use Rattle.lemmas.specs.Turns.{inTurn}
+use Rattle.blits.specs.Blits.{visited, seenColumns, RowFits}
+use Rattle.lemmas.proofs.Turns.{turn-none}
 use Rattle.blits.proofs.Loops.{Fitting, fitting-of, across-some, Stands, stands-first, stands-next, row-fits, rows-more, all-rows}
 use Rattle.blits.proofs.draw_rows.Statement.{statement}
 use Rattle.blits.proofs.draw_rows.Tie as tie

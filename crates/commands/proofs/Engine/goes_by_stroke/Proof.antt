@@ -32,7 +32,7 @@ sub-result c = search needs
 returns : tie.Need-returns
 unfolding goesByStroke
 returns c =
-    let counted = c .before .before .before .before .before in
+    let counted = c .before .before .before in
     let line = counted .before in
     rw (c .smaller .ensures, counted .count .ensures, line .is-line .ensures, line .before .command-of .ensures, more-left _ _ _)
 

@@ -5,9 +5,9 @@ use borrow.Author.Needs.{needs}
 use borrow.Author.Count.{falls}
 use lib.ListN.{length}
 use Rattle.strokes.specs.Strokes.{dashed}
-use Rattle.strokes.specs.Turns.{inTurn}
+use Rattle.lemmas.specs.Turns.{inTurn}
 use Rattle.strokes.specs.Cursors.{cursorAfter, Sound, dashMarkAt}
-use Rattle.strokes.proofs.Turns.{turn-none, turn-end}
+use Rattle.lemmas.proofs.Turns.{turn-none, turn-end}
 use Rattle.strokes.proofs.Courses.{dash-mark-more, cursor-more}
 use Rattle.strokes.proofs.cursors.dash_places.Statement.{statement}
 use Rattle.strokes.proofs.cursors.dash_places.Tie as tie

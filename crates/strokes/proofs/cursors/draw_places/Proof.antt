@@ -4,9 +4,9 @@ use native.Mathlib.Omega.{arith}
 use borrow.Author.Needs.{needs}
 use borrow.Author.Count.{falls}
 use lib.ListN.{length, length-set}
-use Rattle.strokes.specs.Turns.{inTurn}
+use Rattle.lemmas.specs.Turns.{inTurn}
 use Rattle.strokes.specs.Cursors.{cursorAfter, Sound, markAt}
-use Rattle.strokes.proofs.Turns.{turn-none, turn-end}
+use Rattle.lemmas.proofs.Turns.{turn-none, turn-end}
 use Rattle.strokes.proofs.Courses.{mark-more, cursor-more}
 use Rattle.strokes.proofs.cursors.draw_places.Statement.{statement}
 use Rattle.strokes.proofs.cursors.draw_places.Tie as tie

@@ -1,3 +1,4 @@
+use native.Mathlib.Omega.{arith}
 use borrow.Author.Needs.{needs}
 use Rattle.strokes.proofs.Courses.{dash-mark-of}
 use Rattle.strokes.proofs.cursors.mark_dash.Statement.{statement}
@@ -22,7 +23,9 @@ same-length : tie.Need-same-length
 same-length c = search needs
 
 returns : tie.Need-returns
-returns c = dash-mark-of _ _ _ _ _ _ _ (c .before .before .before .pen-at .ensures) (c .before .draw .ensures) (c .next .ensures)
+returns c =
+    let s = c .before .before .before .before .before in
+    dash-mark-of _ _ _ _ _ _ _ (λ k. omega (arith, s .slice-known .given k)) (c .before .before .before .pen-at .ensures) (c .before .draw .ensures) (c .next .ensures)
 
 pub mark-dash-spec : {M : Type 1} → statement M
 mark-dash-spec =

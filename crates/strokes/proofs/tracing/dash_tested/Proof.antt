@@ -5,9 +5,9 @@ use borrow.Author.Needs.{needs}
 use borrow.Author.Count.{falls}
 use lib.ListN.{length}
 use Rattle.strokes.specs.Strokes.{dashed}
-use Rattle.strokes.specs.Turns.{inTurn}
+use Rattle.lemmas.specs.Turns.{inTurn}
 use Rattle.strokes.specs.Tracers.{tracerAfter, dashAt}
-use Rattle.strokes.proofs.Turns.{turn-none, turn-end}
+use Rattle.lemmas.proofs.Turns.{turn-none, turn-end}
 use Rattle.strokes.proofs.Traced.{dash-more, tracer-more}
 use Rattle.strokes.proofs.tracing.dash_tested.Statement.{statement}
 use Rattle.strokes.proofs.tracing.dash_tested.Tie as tie

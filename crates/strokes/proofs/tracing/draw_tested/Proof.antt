@@ -4,9 +4,9 @@ use native.Mathlib.Omega.{arith}
 use borrow.Author.Needs.{needs}
 use borrow.Author.Count.{falls}
 use lib.ListN.{length}
-use Rattle.strokes.specs.Turns.{inTurn}
+use Rattle.lemmas.specs.Turns.{inTurn}
 use Rattle.strokes.specs.Tracers.{tracerAfter, plotAt}
-use Rattle.strokes.proofs.Turns.{turn-none, turn-end}
+use Rattle.lemmas.proofs.Turns.{turn-none, turn-end}
 use Rattle.strokes.proofs.Traced.{plot-more, tracer-more}
 use Rattle.strokes.proofs.tracing.draw_tested.Statement.{statement}
 use Rattle.strokes.proofs.tracing.draw_tested.Tie as tie

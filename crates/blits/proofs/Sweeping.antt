@@ -1,4 +1,4 @@
--- Visits one after the other, in parts and as sweeps.
+-- Visits one after the other, as sweeps.
 -- Assumes nothing.
 use mathlib.Core.Path.{_≡_, refl, ap, sym, _∙_}
 use mathlib.Core.List.{List}
@@ -10,31 +10,7 @@ use lib.ListN.{length, set}
 use borrow.Author.Tests.{leb-true, leb-false, ltb-true, ltb-false}
 use Rattle.lemmas.proofs.Booleans.{by-cases}
 use Rattle.rows.specs.Rows.{sweep}
-use Rattle.blits.specs.Blits.{inTurn}
-
-pub turn-none : (f : ℕ → List ℕ → List ℕ) (l : List ℕ) → l ≡ inTurn f 0 l
-unfolding inTurn
-turn-none f l = refl
-
--- in two parts
-pub turn-join : (f : ℕ → List ℕ → List ℕ) (l : List ℕ) (a b : ℕ) → inTurn (λ i. f (a + i)) b (inTurn f a l) ≡ inTurn f (a + b) l
-unfolding inTurn
-turn-join f l a zero = let h : a + 0 ≡ a = omega arith in rw h
-turn-join f l a (suc b) = let h : a + suc b ≡ suc (a + b) = omega arith in rw (h, turn-join f l a b)
-
--- visits that do the same
-pub turn-agree : (f g : ℕ → List ℕ → List ℕ) (n : ℕ) (l : List ℕ) → ((i : ℕ) → i < n → (m : List ℕ) → f i m ≡ g i m)
-    → inTurn f n l ≡ inTurn g n l
-unfolding inTurn
-turn-agree f g zero l h = refl
-turn-agree f g (suc n) l h =
-    ap (f n) (turn-agree f g n l (λ i p m. h i (omega arith) m)) ∙ h n (omega arith) (inTurn g n l)
-
--- visits that write nothing
-pub turn-idle : (f : ℕ → List ℕ → List ℕ) (n : ℕ) (l : List ℕ) → ((i : ℕ) → i < n → (m : List ℕ) → f i m ≡ m) → inTurn f n l ≡ l
-unfolding inTurn
-turn-idle f zero l h = refl
-turn-idle f (suc n) l h = h n (omega arith) (inTurn f n l) ∙ turn-idle f n l (λ i p m. h i (omega arith) m)
+use Rattle.lemmas.specs.Turns.{inTurn}
 
 -- visits of which those from a on and before b write one byte, and the others nothing
 module _ (f : ℕ → List ℕ → List ℕ) (place : ℕ → ℕ) (value : ℕ → List ℕ → ℕ) (a b : ℕ) (l : List ℕ) where
