@@ -115,7 +115,7 @@ fn draw_places(buffer: &mut [u8], pen: Pen, s: Strides, start: Cursor, n: usize)
 }
 
 // n pixels from a tracer's on.
-pub fn draw_shown(buffer: &mut [u8], width: u32, pen: Pen, t: Tracer, n: usize)
+pub(crate) fn draw_shown(buffer: &mut [u8], width: u32, pen: Pen, t: Tracer, n: usize)
     requires { ⌜ (0 < n) × Stretch width t n (length (now buffer)) ⌝ }
     ensures { λ _. ⌜ now (buffer .exit) ≡ inTurn (markOn width pen t) n (now (buffer .entry)) ⌝ }
 {
@@ -158,7 +158,7 @@ fn dash_places(
 }
 
 // n pixels in dashes, and the pattern state after them.
-pub fn dash_shown(
+pub(crate) fn dash_shown(
     buffer: &mut [u8],
     width: u32,
     dashes: Dashes,

@@ -81,7 +81,7 @@ pub struct Tracer {
 }
 
 // At pixel i of a line.
-pub fn tracer_at(from: u32, to: u32, i: usize) -> Tracer
+pub(crate) fn tracer_at(from: u32, to: u32, i: usize) -> Tracer
     requires { ⌜ (0 < stepsOf (pointOf from) (pointOf to)) × (i ≤ stepsOf (pointOf from) (pointOf to)) ⌝ }
     ensures { λ r. ⌜ Traces (pointOf from) (pointOf to) i r ⌝ }
 {
@@ -94,7 +94,7 @@ pub fn tracer_at(from: u32, to: u32, i: usize) -> Tracer
 }
 
 impl Tracer {
-    pub fn point(self) -> Point
+    pub(crate) fn point(self) -> Point
         ensures { λ r. ⌜ r ≡ pointOn self ⌝ }
     {
         Point {
@@ -125,7 +125,7 @@ fn shown(w: Window, p: Point) -> bool
 }
 
 // Whether it lets through both ends of a stretch of a line, from a tracer's pixel to pixel `last`.
-pub fn ends_shown(w: Window, start: Tracer, from: u32, to: u32, last: usize) -> bool
+pub(crate) fn ends_shown(w: Window, start: Tracer, from: u32, to: u32, last: usize) -> bool
     requires { ⌜ (0 < stepsOf (pointOf from) (pointOf to)) × (last ≤ stepsOf (pointOf from) (pointOf to)) ⌝ }
     ensures { λ r. ⌜ r ≡ (inWindow w (pointOn start) && inWindow w (linePoint (pointOf from) (pointOf to) last)) ⌝ }
 {
@@ -146,7 +146,14 @@ fn plot(buffer: &mut [u8], width: u32, window: Window, pen: Pen, p: Point)
 }
 
 // n pixels.
-pub fn draw_tested(buffer: &mut [u8], width: u32, window: Window, pen: Pen, start: Tracer, n: usize)
+pub(crate) fn draw_tested(
+    buffer: &mut [u8],
+    width: u32,
+    window: Window,
+    pen: Pen,
+    start: Tracer,
+    n: usize,
+)
     requires { ⌜ (windowFits width window (length (now buffer)) ≡ true) × Runs start n ⌝ }
     ensures { λ _. ⌜ now (buffer .exit) ≡ inTurn (plotAt width window pen start) n (now (buffer .entry)) ⌝ }
 {
@@ -160,7 +167,7 @@ pub fn draw_tested(buffer: &mut [u8], width: u32, window: Window, pen: Pen, star
 }
 
 // The pen that the pattern chooses: for a 0 bit that draws nothing, one that leaves a byte as it is.
-pub fn pen_at(d: Dashes, state: Pattern) -> Pen
+pub(crate) fn pen_at(d: Dashes, state: Pattern) -> Pen
     ensures { λ r. ⌜ r ≡ dashPen d state ⌝ }
 {
     if state.bit(d.lpat) {
@@ -191,7 +198,7 @@ fn plot_dash(
 }
 
 // n pixels in dashes, and the pattern state after them.
-pub fn dash_tested(
+pub(crate) fn dash_tested(
     buffer: &mut [u8],
     width: u32,
     window: Window,
