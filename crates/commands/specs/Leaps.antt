@@ -19,7 +19,13 @@ use Rattle.strokes.specs.declared.Dashes.{Dashes}
 use Rattle.commands.specs.Visits.{commandIn, isBlit, isLine, lineStart, countOf}
 use Rattle.commands.specs.declared.Engine.{Engine}
 
--- FORE, MASK and KEY are bytes in a legal register file.
+-- The window of clip and buffer, and the pen of a value. FORE, BACK, MASK and KEY are bytes in a legal register file.
+abbrev pub windowIn : Engine → ℕ → ℕ → Window
+windowIn e width height = windowOf width height (commandIn e .clip) (e .registers .clptl) (e .registers .clpbr)
+
+abbrev pub penIn : Engine → ℕ → Pen
+penIn e value = penOf (commandIn e .code) (value % 256) (e .registers .mask % 256)
+
 abbrev pub mixIn : Engine → Mix
 mixIn e =
     record {
@@ -31,7 +37,7 @@ mixIn e =
 -- A blit draws with FORE, from the other buffer, or from the one that it draws on.
 unfoldable pub paintOf : Engine → Paint
 paintOf e =
-    cond (commandIn e .solid) (Solid (penOf (commandIn e .code) (e .registers .fore % 256) (e .registers .mask % 256)))
+    cond (commandIn e .solid) (Solid (penIn e (e .registers .fore)))
     (cond (commandIn e .«to_virtual»)
     (cond (commandIn e .«from_virtual») (Moved (mixIn e)) (Copied (mixIn e)))
     (cond (commandIn e .«from_virtual») (Copied (mixIn e)) (Moved (mixIn e))))
@@ -41,7 +47,7 @@ blitIn e width height =
     record {
       width = width;
       height = height;
-      window = windowOf width height (commandIn e .clip) (e .registers .clptl) (e .registers .clpbr);
+      window = windowIn e width height;
       from = e .registers .xy0;
       to = e .registers .xy1;
       size = e .registers .xy2;
@@ -67,9 +73,6 @@ goesByRows e n width height display virt =
     && eqb virt (width * height)
 
 -- A line draws with FORE, or with FORE and BACK by its pattern.
-abbrev pub penIn : Engine → ℕ → Pen
-penIn e value = penOf (commandIn e .code) (value % 256) (e .registers .mask % 256)
-
 abbrev pub dashesIn : Engine → Dashes
 dashesIn e =
     record {
@@ -79,9 +82,6 @@ dashesIn e =
       clear = commandIn e .trnsp;
       control = patternControlOf (e .registers .pctrl);
     }
-
-abbrev pub windowIn : Engine → ℕ → ℕ → Window
-windowIn e width height = windowOf width height (commandIn e .clip) (e .registers .clptl) (e .registers .clpbr)
 
 -- n pixels of the line in CMD on the buffer that it draws on, and the pattern after them.
 unfoldable pub strokeIn : Engine → ℕ → ℕ → ℕ → List ℕ → Dashed

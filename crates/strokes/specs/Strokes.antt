@@ -48,7 +48,8 @@ pub record Dashed : Type 0 where
 abbrev pub dashed : List ℕ → Pattern → Dashed
 dashed l q = record { buffer = l; pattern = q }
 
--- One pixel of a dashed line: the pattern's bit chooses the pen, a 0 bit draws nothing where the dashes are clear, and the pattern moves where the pixel is let through.
+-- One pixel of a dashed line: the pattern's bit chooses the pen, a 0 bit draws nothing where the dashes are clear, and the
+-- pattern moves where the pixel is let through.
 unfoldable pub dash : ℕ → Window → Dashes → Point → Dashed → Dashed
 dash width w d p s =
     record {
