@@ -1,6 +1,7 @@
 pub mod Sweeps
 pub mod Orders
 pub mod Within
+pub mod Parts
 pub mod Tests
 pub mod Mixing
 pub mod Plain

@@ -11,7 +11,7 @@ use Rattle.rows.specs.Rows.{sweep, filled, copied, filledBack, copiedBac
 use Rattle.rows.proofs.Sweeps.{sweep-first, sweep-agree, sweep-set, sweep-stays}
 
 -- from left to right, and from right to left
-abbrev right : (ℕ → ℕ → ℕ) → ℕ → List ℕ → ℕ → List ℕ
+abbrev pub right : (ℕ → ℕ → ℕ) → ℕ → List ℕ → ℕ → List ℕ
 right f n l at = sweep (λ k. at + k) (λ k m. f k (getD m (at + k) 0)) n l
 
 abbrev left : (ℕ → ℕ → ℕ) → ℕ → List ℕ → ℕ → List ℕ

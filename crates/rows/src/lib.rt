@@ -43,14 +43,14 @@ fn fits(len: usize, at: usize, n: usize) -> bool
     false
 }
 
-// True only where 32 pixels may be read before the first of them is written.
-fn is_clear(at: usize, from: usize) -> bool
-    ensures { λ r. ⌜ (r ≡ true → (at ≤ from) ⊎ (from + 32 ≤ at)) ⌝ }
+// True only where n pixels may be read before the first of them is written.
+fn is_clear(at: usize, from: usize, n: usize) -> bool
+    ensures { λ r. ⌜ (r ≡ true → (at ≤ from) ⊎ (from + n ≤ at)) ⌝ }
 {
     if at <= from {
         return true;
     }
-    32 <= at - from
+    n <= at - from
 }
 
 // Each byte becomes x.
@@ -63,6 +63,31 @@ fn fill_bytes(buffer: &mut [u8], at: usize, n: usize, x: u8)
         buffer[at + k] = x;
         k += 1;
     }
+}
+
+// The same for b to 2b bytes: the first b, and the last b.
+fn fill_twice(buffer: &mut [u8], at: usize, n: usize, b: usize, x: u8)
+    requires { ⌜ (b ≤ n) × (n ≤ b + b) × (at + n ≤ length (now buffer)) ⌝ }
+    ensures { λ _. ⌜ now (buffer .exit) ≡ sweep (λ k. at + k) (λ k m. x) n (now (buffer .entry)) ⌝ }
+{
+    fill_bytes(buffer, at, b, x);
+    fill_bytes(buffer, at + (n - b), b, x);
+}
+
+// The same for 8 bytes or more: with a fixed length a fill is one store, with another a call of memset.
+fn fill_plain(buffer: &mut [u8], at: usize, n: usize, x: u8)
+    requires { ⌜ (8 ≤ n) × (at + n ≤ length (now buffer)) ⌝ }
+    ensures { λ _. ⌜ now (buffer .exit) ≡ sweep (λ k. at + k) (λ k m. x) n (now (buffer .entry)) ⌝ }
+{
+    if n < 16 {
+        fill_twice(buffer, at, n, 8, x);
+        return;
+    }
+    if n < 32 {
+        fill_twice(buffer, at, n, 16, x);
+        return;
+    }
+    fill_bytes(buffer, at, n, x);
 }
 
 // Each byte is drawn with the pen.
@@ -146,6 +171,59 @@ fn mix_within_back(buffer: &mut [u8], at: usize, from: usize, n: usize, mix: Mix
     }
 }
 
+// At most 4096 pixels, all read before the first of them is written: the compiler makes one memmove of the two loops.
+fn copy_at_once(buffer: &mut [u8], at: usize, source: &[u8], from: usize, n: usize)
+    requires { ⌜ (n ≤ 4096) × (at + n ≤ length (now buffer)) × (from + n ≤ length (now source)) ⌝ }
+    ensures { λ _. ⌜ now (buffer .exit) ≡ copied (λ s d. s) n (now (buffer .entry)) at (now (source .entry)) from ⌝ }
+{
+    let mut pixels: [u8; 4096] = [0; 4096];
+    copy_bytes(&mut pixels, 0, source, from, n);
+    copy_bytes(buffer, at, &pixels, 0, n);
+}
+
+fn move_at_once(buffer: &mut [u8], at: usize, from: usize, n: usize)
+    requires { ⌜ (n ≤ 4096) × (at + n ≤ length (now buffer)) × (from + n ≤ length (now buffer)) ⌝ }
+    ensures { λ _. ⌜ now (buffer .exit) ≡ copied (λ s d. s) n (now (buffer .entry)) at (now (buffer .entry)) from ⌝ }
+{
+    let mut pixels: [u8; 4096] = [0; 4096];
+    copy_bytes(&mut pixels, 0, buffer, from, n);
+    copy_bytes(buffer, at, &pixels, 0, n);
+}
+
+// Rows of the source bytes as they are, at once where that is the same.
+fn copy_plain(buffer: &mut [u8], at: usize, source: &[u8], from: usize, n: usize)
+    requires { ⌜ (at + n ≤ length (now buffer)) × (from + n ≤ length (now source)) ⌝ }
+    ensures { λ _. ⌜ now (buffer .exit) ≡ copied (λ s d. s) n (now (buffer .entry)) at (now (source .entry)) from ⌝ }
+{
+    if n <= 4096 {
+        copy_at_once(buffer, at, source, from, n);
+        return;
+    }
+    copy_bytes(buffer, at, source, from, n);
+}
+
+fn move_plain(buffer: &mut [u8], at: usize, from: usize, n: usize)
+    requires { ⌜ (at + n ≤ length (now buffer)) × (from + n ≤ length (now buffer)) ⌝ }
+    ensures { λ _. ⌜ now (buffer .exit) ≡ moved (λ s d. s) n (now (buffer .entry)) at from ⌝ }
+{
+    if is_clear(at, from, n) & (n <= 4096) {
+        move_at_once(buffer, at, from, n);
+        return;
+    }
+    move_bytes(buffer, at, from, n);
+}
+
+fn move_plain_back(buffer: &mut [u8], at: usize, from: usize, n: usize)
+    requires { ⌜ (n ≤ at) × (n ≤ from) × (at ≤ length (now buffer)) × (from ≤ length (now buffer)) ⌝ }
+    ensures { λ _. ⌜ now (buffer .exit) ≡ movedBack (λ s d. s) n (now (buffer .entry)) at from ⌝ }
+{
+    if is_clear(from, at, n) & (n <= 4096) {
+        move_at_once(buffer, at - n, from - n, n);
+        return;
+    }
+    move_bytes_back(buffer, at, from, n);
+}
+
 // 32 pixels, all read before the first of them is written.
 fn block(buffer: &mut [u8], at: usize, from: usize, mix: Mix)
     requires { ⌜ (at + 32 ≤ length (now buffer)) × (from + 32 ≤ length (now buffer)) ⌝ }
@@ -156,26 +234,85 @@ fn block(buffer: &mut [u8], at: usize, from: usize, mix: Mix)
     mix_bytes(buffer, at, &pixels, 0, 32, mix);
 }
 
-fn blocks(buffer: &mut [u8], at: usize, from: usize, n: usize, mix: Mix)
+// The whole blocks of a row, and how many pixels they have.
+fn blocks(buffer: &mut [u8], at: usize, from: usize, n: usize, mix: Mix) -> usize
     requires { ⌜ (at + n ≤ length (now buffer)) × (from + n ≤ length (now buffer)) × ((at ≤ from) ⊎ (from + 32 ≤ at)) ⌝ }
-    ensures { λ _. ⌜ now (buffer .exit) ≡ moved (mixed mix) n (now (buffer .entry)) at from ⌝ }
+    ensures { λ r. ⌜ (r ≤ n) × (n < r + 32) × (now (buffer .exit) ≡ moved (mixed mix) r (now (buffer .entry)) at from) ⌝ }
 {
     let mut k: usize = 0;
     while 32 <= n - k {
         block(buffer, at + k, from + k, mix);
         k += 32;
     }
-    mix_within(buffer, at + k, from + k, n - k, mix);
+    k
 }
 
-fn blocks_back(buffer: &mut [u8], at: usize, from: usize, n: usize, mix: Mix)
+fn blocks_back(buffer: &mut [u8], at: usize, from: usize, n: usize, mix: Mix) -> usize
     requires { ⌜ (n ≤ at) × (n ≤ from) × (at ≤ length (now buffer)) × (from ≤ length (now buffer)) × ((from ≤ at) ⊎ (at + 32 ≤ from)) ⌝ }
-    ensures { λ _. ⌜ now (buffer .exit) ≡ movedBack (mixed mix) n (now (buffer .entry)) at from ⌝ }
+    ensures { λ r. ⌜ (r ≤ n) × (n < r + 32) × (now (buffer .exit) ≡ movedBack (mixed mix) r (now (buffer .entry)) at from) ⌝ }
 {
     let mut k: usize = 0;
     while 32 <= n - k {
         k += 32;
         block(buffer, at - k, from - k, mix);
+    }
+    k
+}
+
+// Rows of 32 pixels or more in whole blocks. The last 32 pixels are drawn aside, on the old ones, before the blocks, and stored
+// after them: what the blocks left out is drawn then, and what they drew is drawn again as it was.
+fn draw_long(buffer: &mut [u8], at: usize, n: usize, pen: Pen)
+    requires { ⌜ (32 ≤ n) × (at + n ≤ length (now buffer)) ⌝ }
+    ensures { λ _. ⌜ now (buffer .exit) ≡ filled pen n (now (buffer .entry)) at ⌝ }
+{
+    let z = n - 32;
+    let mut last: [u8; 32] = [0; 32];
+    copy_bytes(&mut last, 0, buffer, at + z, 32);
+    draw_bytes(&mut last, 0, 32, pen);
+    draw_bytes(buffer, at, n / 32 * 32, pen);
+    copy_bytes(buffer, at + z, &last, 0, 32);
+}
+
+fn mix_long(buffer: &mut [u8], at: usize, source: &[u8], from: usize, n: usize, mix: Mix)
+    requires { ⌜ (32 ≤ n) × (at + n ≤ length (now buffer)) × (from + n ≤ length (now source)) ⌝ }
+    ensures { λ _. ⌜ now (buffer .exit) ≡ copied (mixed mix) n (now (buffer .entry)) at (now (source .entry)) from ⌝ }
+{
+    let z = n - 32;
+    let mut last: [u8; 32] = [0; 32];
+    copy_bytes(&mut last, 0, buffer, at + z, 32);
+    mix_bytes(&mut last, 0, source, from + z, 32, mix);
+    mix_bytes(buffer, at, source, from, (n - 1) / 32 * 32, mix);
+    copy_bytes(buffer, at + z, &last, 0, 32);
+}
+
+// Within one buffer the last pixels are drawn aside only where no visit reads what another wrote.
+fn move_long(buffer: &mut [u8], at: usize, from: usize, n: usize, mix: Mix)
+    requires { ⌜ (32 ≤ n) × (at + n ≤ length (now buffer)) × (from + n ≤ length (now buffer)) × ((at ≤ from) ⊎ (from + 32 ≤ at)) ⌝ }
+    ensures { λ _. ⌜ now (buffer .exit) ≡ moved (mixed mix) n (now (buffer .entry)) at from ⌝ }
+{
+    let z = n - 32;
+    let mut last: [u8; 32] = [0; 32];
+    copy_bytes(&mut last, 0, buffer, at + z, 32);
+    mix_bytes(&mut last, 0, buffer, from + z, 32, mix);
+    let k = blocks(buffer, at, from, n - 1, mix);
+    if is_clear(at, from, n) {
+        copy_bytes(buffer, at + z, &last, 0, 32);
+        return;
+    }
+    mix_within(buffer, at + k, from + k, n - k, mix);
+}
+
+fn move_long_back(buffer: &mut [u8], at: usize, from: usize, n: usize, mix: Mix)
+    requires { ⌜ (32 ≤ n) × (n ≤ at) × (n ≤ from) × (at ≤ length (now buffer)) × (from ≤ length (now buffer)) × ((from ≤ at) ⊎ (at + 32 ≤ from)) ⌝ }
+    ensures { λ _. ⌜ now (buffer .exit) ≡ movedBack (mixed mix) n (now (buffer .entry)) at from ⌝ }
+{
+    let mut last: [u8; 32] = [0; 32];
+    copy_bytes(&mut last, 0, buffer, at - n, 32);
+    mix_bytes(&mut last, 0, buffer, from - n, 32, mix);
+    let k = blocks_back(buffer, at, from, n - 1, mix);
+    if is_clear(from, at, n) {
+        copy_bytes(buffer, at - n, &last, 0, 32);
+        return;
     }
     mix_within_back(buffer, at - k, from - k, n - k, mix);
 }
@@ -185,11 +322,15 @@ fn fill_pixels(buffer: &mut [u8], at: usize, n: usize, pen: Pen)
     requires { ⌜ at + n ≤ length (now buffer) ⌝ }
     ensures { λ _. ⌜ now (buffer .exit) ≡ filled pen n (now (buffer .entry)) at ⌝ }
 {
-    if pen.keep == 0 {
-        fill_bytes(buffer, at, n, pen.flip);
+    if (pen.keep == 0) & (8 <= n) {
+        fill_plain(buffer, at, n, pen.flip);
         return;
     }
-    draw_bytes(buffer, at, n, pen);
+    if n < 32 {
+        draw_bytes(buffer, at, n, pen);
+        return;
+    }
+    draw_long(buffer, at, n, pen);
 }
 
 // Rows that fit, from another buffer and within one.
@@ -198,10 +339,14 @@ fn copy_pixels(buffer: &mut [u8], at: usize, source: &[u8], from: usize, n: usiz
     ensures { λ _. ⌜ now (buffer .exit) ≡ copied (mixed mix) n (now (buffer .entry)) at (now (source .entry)) from ⌝ }
 {
     if is_plain(mix) {
-        copy_bytes(buffer, at, source, from, n);
+        copy_plain(buffer, at, source, from, n);
         return;
     }
-    mix_bytes(buffer, at, source, from, n, mix);
+    if n < 32 {
+        mix_bytes(buffer, at, source, from, n, mix);
+        return;
+    }
+    mix_long(buffer, at, source, from, n, mix);
 }
 
 fn move_pixels(buffer: &mut [u8], at: usize, from: usize, n: usize, mix: Mix)
@@ -209,11 +354,11 @@ fn move_pixels(buffer: &mut [u8], at: usize, from: usize, n: usize, mix: Mix)
     ensures { λ _. ⌜ now (buffer .exit) ≡ moved (mixed mix) n (now (buffer .entry)) at from ⌝ }
 {
     if is_plain(mix) {
-        move_bytes(buffer, at, from, n);
+        move_plain(buffer, at, from, n);
         return;
     }
-    if is_clear(at, from) {
-        blocks(buffer, at, from, n, mix);
+    if is_clear(at, from, 32) & (32 <= n) {
+        move_long(buffer, at, from, n, mix);
         return;
     }
     mix_within(buffer, at, from, n, mix);
@@ -224,11 +369,11 @@ fn move_pixels_back(buffer: &mut [u8], at: usize, from: usize, n: usize, mix: Mi
     ensures { λ _. ⌜ now (buffer .exit) ≡ movedBack (mixed mix) n (now (buffer .entry)) at from ⌝ }
 {
     if is_plain(mix) {
-        move_bytes_back(buffer, at, from, n);
+        move_plain_back(buffer, at, from, n);
         return;
     }
-    if is_clear(from, at) {
-        blocks_back(buffer, at, from, n, mix);
+    if is_clear(from, at, 32) & (32 <= n) {
+        move_long_back(buffer, at, from, n, mix);
         return;
     }
     mix_within_back(buffer, at, from, n, mix);

@@ -1,6 +1,7 @@
 use native.Mathlib.Omega.{arith}
 use borrow.Author.Needs.{needs}
 use mathlib.Core.Path.{_∙_}
+use Rattle.rows.proofs.Tests.{and-at-most}
 use Prim.Native.Nat.{_+_}
 use Rattle.rows.specs.Rows.{mixed}
 use Rattle.rows.proofs.Plain.{along-plain}
@@ -10,8 +11,8 @@ use Rattle.rows.proofs.move_pixels.Tie as tie
 is-plain-requires : tie.Need-is-plain-requires
 is-plain-requires c κs = search needs
 
-move-bytes-requires : tie.Need-move-bytes-requires
-move-bytes-requires c κs = search needs
+move-plain-requires : tie.Need-move-plain-requires
+move-plain-requires c κs = search needs
 
 same-length : tie.Need-same-length
 same-length c = search needs
@@ -21,17 +22,19 @@ returns c =
     let o = c .before .before .before .before in
     let s = o .before .before in
     let a = s .before .args in
-    c .before .before .move-bytes .ensures
+    c .before .before .move-plain .ensures
     ∙ along-plain (mixed (a .mix)) (o .before .is-plain .ensures (o .if1 .taken)) (λ k. a .at + k) (λ k. a .from + k) (a .n) (a .buffer .now)
     (λ k. omega (arith, s .slice-known .given k))
 
 is-clear-requires : tie.Need-is-clear-requires
 is-clear-requires c κs = search needs
 
-blocks-requires : tie.Need-blocks-requires
-blocks-requires c κs =
-    let o = c .before .before .before .before .before .before in
-    (o .pre .0, o .pre .1, c .before .before .is-clear .ensures (c .before .if2 .taken))
+move-long-requires : tie.Need-move-long-requires
+move-long-requires c κs =
+    let y = c .before in
+    let s = y .before .before .before .before .before in
+    let t = and-at-most (y .before .is-clear .result) 32 (s .args .n) (y .if2 .taken) in
+    (t .1, s .pre .0, s .pre .1, y .before .is-clear .ensures (t .0))
 
 same-length-2 : tie.Need-same-length-2
 same-length-2 c = search needs
@@ -53,11 +56,11 @@ move-pixels-spec =
     tie.close
     (tie.spec
     is-plain-requires
-    move-bytes-requires
+    move-plain-requires
     same-length
     returns
     is-clear-requires
-    blocks-requires
+    move-long-requires
     same-length-2
     returns-2
     mix-within-requires

@@ -1,6 +1,7 @@
 use native.Mathlib.Omega.{arith}
 use borrow.Author.Needs.{needs}
 use mathlib.Core.Path.{_∙_}
+use Rattle.rows.proofs.Tests.{and-at-most}
 use Prim.Native.Nat.{_+_, _-_}
 use Rattle.rows.specs.Rows.{mixed}
 use Rattle.rows.proofs.Plain.{along-plain}
@@ -10,8 +11,8 @@ use Rattle.rows.proofs.move_pixels_back.Tie as tie
 is-plain-requires : tie.Need-is-plain-requires
 is-plain-requires c κs = search needs
 
-move-bytes-back-requires : tie.Need-move-bytes-back-requires
-move-bytes-back-requires c κs = search needs
+move-plain-back-requires : tie.Need-move-plain-back-requires
+move-plain-back-requires c κs = search needs
 
 same-length : tie.Need-same-length
 same-length c = search needs
@@ -21,17 +22,19 @@ returns c =
     let o = c .before .before .before .before in
     let s = o .before .before in
     let a = s .before .args in
-    c .before .before .move-bytes-back .ensures
+    c .before .before .move-plain-back .ensures
     ∙ along-plain (mixed (a .mix)) (o .before .is-plain .ensures (o .if1 .taken)) (λ k. a .at - (k + 1)) (λ k. a .from - (k + 1)) (a .n) (a .buffer .now)
     (λ k. omega (arith, s .slice-known .given k))
 
 is-clear-requires : tie.Need-is-clear-requires
 is-clear-requires c κs = search needs
 
-blocks-back-requires : tie.Need-blocks-back-requires
-blocks-back-requires c κs =
-    let o = c .before .before .before .before .before .before in
-    (o .pre .0, o .pre .1, o .pre .2, o .pre .3, c .before .before .is-clear .ensures (c .before .if2 .taken))
+move-long-back-requires : tie.Need-move-long-back-requires
+move-long-back-requires c κs =
+    let y = c .before in
+    let s = y .before .before .before .before .before in
+    let t = and-at-most (y .before .is-clear .result) 32 (s .args .n) (y .if2 .taken) in
+    (t .1, s .pre .0, s .pre .1, s .pre .2, s .pre .3, y .before .is-clear .ensures (t .0))
 
 same-length-2 : tie.Need-same-length-2
 same-length-2 c = search needs
@@ -53,11 +56,11 @@ move-pixels-back-spec =
     tie.close
     (tie.spec
     is-plain-requires
-    move-bytes-back-requires
+    move-plain-back-requires
     same-length
     returns
     is-clear-requires
-    blocks-back-requires
+    move-long-back-requires
     same-length-2
     returns-2
     mix-within-back-requires
