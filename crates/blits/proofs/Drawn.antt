@@ -3,30 +3,39 @@
 use mathlib.Core.Path.{_≡_, refl, ap, sym, subst, _∙_}
 use mathlib.Core.Bool.{Bool, true, false, cond}
 use mathlib.Core.List.{List}
-use mathlib.Core.Logic.{_⊎_, ⊎-elim}
+use mathlib.Core.Logic.{⊎-elim}
 use Prim.Native.Nat.{ℕ, _+_, _-_, _*_, _≤_, _<_, min, max}
 use native.Mathlib.Nat.{add-assoc}
 use native.Mathlib.Omega.{arith}
-use lib.ListN.{length, getD, set}
+use lib.ListN.{getD}
 use Rattle.geometry.specs.Coordinates.{origin, pointOf}
 use Rattle.geometry.specs.Blit.{widthOf, rightToLeft, away}
 use Rattle.rows.specs.Rows.{mixed, sweep}
 use Rattle.rows.proofs.Sweeps.{sweep-agree}
 use Rattle.lemmas.specs.Turns.{inTurn}
 use Rattle.geometry.specs.Clip.{placeIn}
-use Rattle.blits.specs.Blits.{painted, reads, targetAt, sourceAt, drawnAt, visited, seenColumns, targetRow, sourceRow, rowSeen, rowOf, leftEdge}
+use Rattle.blits.specs.Blits.{painted, reads, targetAt, sourceAt, drawnAt, visited, seenColumns, targetRow, sourceRow, rowOf, leftEdge}
 use Rattle.blits.specs.declared.Blit.{Blit}
 use Rattle.blits.specs.declared.Paint.{Paint}
 use Rattle.blits.specs.declared.Paint.the-variants.{Solid, Copied, Moved}
 use Rattle.lemmas.proofs.Turns.{turn-idle}
 use Rattle.blits.proofs.Sweeping.{turn-sweep}
 use Rattle.blits.proofs.Spans.{x-from, visit-drawn, visit-hidden}
-use Rattle.blits.proofs.Rowwise.{RowSeen, row-of, row-by, Within, within-of, within-by, target-is, source-is, seen-drawn, drawn-seen}
+use Rattle.blits.proofs.Rowwise.{ColumnIn, RowIn, column-of, column-by, target-is, source-is, seen-drawn, drawn-seen}
 
 same-source : (paint : Paint) (other own : List ℕ) (x y d : ℕ) → (reads paint ≡ true → x ≡ y) → painted paint other own x d ≡ painted paint other own y d
 same-source (Solid pen) other own x y d h = refl
 same-source (Copied mix) other own x y d h = ap (λ x. mixed mix (getD other x 0) d) (h refl)
 same-source (Moved mix) other own x y d h = ap (λ x. mixed mix (getD own x 0) d) (h refl)
+
+-- a row is the same from another place where nothing is read
+pub same-source-row : (paint : Paint) (back : Bool) (other : List ℕ) (at x y n : ℕ) (l : List ℕ) → (reads paint ≡ true → x ≡ y)
+    → rowOf paint back other at x n l ≡ rowOf paint back other at y n l
+unfolding rowOf
+same-source-row (Solid pen) false other at x y n l h = refl
+same-source-row (Solid pen) true other at x y n l h = refl
+same-source-row (Copied mix) back other at x y n l h = ap (λ x. rowOf (Copied mix) back other at x n l) (h refl)
+same-source-row (Moved mix) back other at x y n l h = ap (λ x. rowOf (Moved mix) back other at x n l) (h refl)
 
 -- a sweep over the places of a row, in either direction
 sweep-row : (paint : Paint) (back : Bool) (other : List ℕ) (at from n : ℕ) (place source : ℕ → ℕ)
@@ -83,10 +92,10 @@ from-in c from a i e h = omega arith
 past-in : (c m past z i : ℕ) → z ≡ min (c + m) past → i < z - c → c + i < past
 past-in c m past z i e h = omega arith
 
-before-from : (c from a i : ℕ) → a ≡ max c from → i < a - c → from ≤ c + i → ⊥
+pub before-from : (c from a i : ℕ) → a ≡ max c from → i < a - c → from ≤ c + i → ⊥
 before-from c from a i e h f = omega arith
 
-after-past : (c m past z i : ℕ) → z ≡ min (c + m) past → z - c ≤ i → i < m → c + i < past → ⊥
+pub after-past : (c m past z i : ℕ) → z ≡ min (c + m) past → z - c ≤ i → i < m → c + i < past → ⊥
 after-past c m past z i e h q f = omega arith
 
 -- the place of column a + k, of those from a to before z
@@ -104,18 +113,18 @@ module _ (b : Blit) (other : List ℕ) (r c m : ℕ) (fits : c + m ≤ widthOf (
   at-index i = add-assoc (widthOf (b .size) * r) c i
 
   abbrev Seen : ℕ → Type 0
-  Seen i = (rowSeen b r ≡ true) × (seenColumns b .from ≤ c + i) × (c + i < seenColumns b .past)
+  Seen i = RowIn b r × (seenColumns b .from ≤ c + i) × (c + i < seenColumns b .past)
 
   seen-of : (i : ℕ) → i < m → drawnAt b (widthOf (b .size) * r + c + i) ≡ true → Seen i
   seen-of i q d =
       let seen = drawn-seen b r (c + i) (omega (arith, q, fits)) size-small (subst (λ k. drawnAt b k ≡ true) (at-index i) d) in
-      let columns = within-by b (c + i) (omega (arith, q, fits, size-small)) (seen .1) in
-      (row-by b r (seen .0), columns .0, columns .1)
+      let columns = column-by b (c + i) (omega (arith, q, fits, size-small)) (seen .1) in
+      (seen .0, columns .0, columns .1)
 
   seen-by : (i : ℕ) → i < m → Seen i → drawnAt b (widthOf (b .size) * r + c + i) ≡ true
   seen-by i q s =
       subst (λ k. drawnAt b k ≡ true) (sym (at-index i))
-      (seen-drawn b r (c + i) (omega (arith, q, fits)) size-small (row-of b r (s .0)) (within-of b (c + i) (omega (arith, q, fits, size-small)) (s .1) (s .2)))
+      (seen-drawn b r (c + i) (omega (arith, q, fits)) size-small (s .0) (column-of b (c + i) (omega (arith, q, fits, size-small)) (s .1) (s .2)))
 
   -- a row of which nothing is seen
   pub row-hidden : (l : List ℕ) → ((i : ℕ) → i < m → Seen i → ⊥) → l ≡ inTurn visit m l
@@ -124,7 +133,7 @@ module _ (b : Blit) (other : List ℕ) (r c m : ℕ) (fits : c + m ≤ widthOf (
 
   -- a row of which the columns from a to before z are seen
   module _ (a z : ℕ) (starts : a ≡ max c (seenColumns b .from)) (ends : z ≡ min (c + m) (seenColumns b .past)) (some : a < z)
-      (seen : rowSeen b r ≡ true) (window-in : origin ≤ b .window .left) where
+      (seen : RowIn b r) (window-in : origin ≤ b .window .left) where
     abbrev place : ℕ → ℕ
     place i = placeIn (b .width) (targetAt b (widthOf (b .size) * r + c + i))
 
@@ -152,8 +161,8 @@ module _ (b : Blit) (other : List ℕ) (r c m : ℕ) (fits : c + m ≤ widthOf (
         let e : c + (a - c + k) ≡ a + k = omega (arith, starts) in
         (at-index (a - c + k) ∙ ap (λ j. widthOf (b .size) * r + j) e, omega (arith, ends, fits, h))
 
-    within : (j : ℕ) → a ≤ j → j < z → Within b j
-    within j from to = within-of b j (omega (arith, ends, to, fits, size-small)) (omega (arith, starts, from)) (omega (arith, ends, to))
+    within : (j : ℕ) → a ≤ j → j < z → ColumnIn b j
+    within j from to = column-of b j (omega (arith, ends, to, fits, size-small)) (omega (arith, starts, from)) (omega (arith, ends, to))
 
     abbrev targetBase : ℕ
     targetBase = (targetRow b r - origin) * b .width
@@ -170,7 +179,7 @@ module _ (b : Blit) (other : List ℕ) (r c m : ℕ) (fits : c + m ≤ widthOf (
         let last = within (z - 1) (omega (arith, some)) (omega (arith, some)) in
         ap (λ i. placeIn (b .width) (targetAt b i)) (j .0) ∙ ap (placeIn (b .width)) (target-is b r (a + k) (j .1) size-small)
         ∙ column-place (rightToLeft (b .direction)) targetBase (pointOf (b .to) .x) a z k (x-from (b .to)) (omega (arith, ends, fits, size-small))
-        (omega (arith, h)) (omega (arith, window-in, first .target-left)) (omega (arith, window-in, last .target-left))
+        (omega (arith, h)) (omega (arith, window-in, first .low)) (omega (arith, window-in, last .low))
 
     source-place : (k : ℕ) → k < z - a → reads (b .paint) ≡ true →
         let from = sourceBase + (leftEdge (rightToLeft (b .direction)) (pointOf (b .from) .x) a z - origin) in

@@ -5,4 +5,6 @@ pub mod Drawn
 pub mod Bounds
 pub mod Painted
 pub mod Rooms
+pub mod Steps
 pub mod Loops
+pub mod Boxes

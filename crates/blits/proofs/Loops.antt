@@ -1,9 +1,9 @@
 -- Visits row after row.
 -- Assumes nothing.
 use mathlib.Core.Path.{_≡_, refl, ap, sym, _∙_}
-use mathlib.Core.Bool.{Bool, true, false, cond, _&&_}
+use mathlib.Core.Bool.{true, false, cond, _&&_}
 use mathlib.Core.List.{List}
-use Prim.Native.Nat.{ℕ, zero, suc, _+_, _-_, _*_, _/_, _%_, _≤_, _<_, min}
+use Prim.Native.Nat.{ℕ, suc, _+_, _-_, _*_, _/_, _%_, _≤_, _<_, min}
 use native.Mathlib.Nat.{add-assoc, mul-add, mul-one, mul-le-mul-left, div-add-mod, mod-lt}
 use native.Mathlib.Omega.{arith}
 use borrow.Author.Tests.{leb-true, leb-false, eqb-true}
@@ -13,15 +13,9 @@ use Rattle.lemmas.proofs.Booleans.{by-cases, and-left, and-right}
 use Rattle.geometry.specs.Blit.{widthOf, heightOf, blitCount}
 use Rattle.geometry.proofs.Blits.{factor-pos}
 use Rattle.lemmas.specs.Turns.{inTurn}
-use Rattle.blits.specs.Blits.{visited, windowInside, blitFits, blitted, RowFits}
+use Rattle.blits.specs.Blits.{visited, windowInside, blitFits, blitted, Fitting, RowFits, WholeRows}
 use Rattle.blits.specs.declared.Blit.{Blit}
 use Rattle.lemmas.proofs.Turns.{turn-none, turn-join, turn-agree}
-
-pub record Fitting (b : Blit) (first n other own : ℕ) : Type 0 where
-  pub own-area : own ≡ b .width * b .height
-  pub other-area : other ≡ b .width * b .height
-  pub inside : windowInside (b .width) (b .height) (b .window) ≡ true
-  pub visits : first + n ≤ blitCount (b .size)
 
 pub fitting-of : (b : Blit) (first n other own : ℕ) → blitFits b first n other own ≡ true → Fitting b first n other own
 fitting-of b first n other own h =
@@ -89,15 +83,16 @@ row-fits b first n k row column m other own small f h s e =
     within : (w left column m : ℕ) → m ≡ min left (w - column) → column < w → column + m ≤ w
     within w left column m e h = omega arith
 
--- one row more
-pub rows-more : (b : Blit) (other l k₁ k₂ : List ℕ) (first k row column m : ℕ) → k₁ ≡ inTurn (λ i. visited b other (first + i)) k l
-    → Stands (widthOf (b .size)) first k row column
-    → k₂ ≡ inTurn (λ i. visited b other (widthOf (b .size) * row + column + i)) m k₁
-    → k₂ ≡ inTurn (λ i. visited b other (first + i)) (k + m) l
-rows-more b other l k₁ k₂ first k row column m e s g =
+pub no-visits : (b : Blit) (first n : ℕ) (other l : List ℕ) → n ≡ 0 → l ≡ inTurn (λ i. visited b other (first + i)) n l
+no-visits b first n other l e = turn-none (λ i. visited b other (first + i)) l ∙ ap (λ n. inTurn (λ i. visited b other (first + i)) n l) (sym e)
+
+-- more visits
+pub visits-more : (b : Blit) (other l k₁ k₂ : List ℕ) (first k start m : ℕ) → k₁ ≡ inTurn (λ i. visited b other (first + i)) k l
+    → first + k ≡ start → k₂ ≡ inTurn (λ i. visited b other (start + i)) m k₁ → k₂ ≡ inTurn (λ i. visited b other (first + i)) (k + m) l
+visits-more b other l k₁ k₂ first k start m e s g =
     g
-    ∙ turn-agree (λ i. visited b other (widthOf (b .size) * row + column + i)) (λ i. visited b other (first + (k + i))) m k₁
-    (λ i p t. ap (λ j. visited b other j t) (ap (λ j. j + i) (sym (s .here)) ∙ add-assoc first k i))
+    ∙ turn-agree (λ i. visited b other (start + i)) (λ i. visited b other (first + (k + i))) m k₁
+    (λ i p t. ap (λ j. visited b other j t) (ap (λ j. j + i) (sym s) ∙ add-assoc first k i))
     ∙ ap (inTurn (λ i. visited b other (first + (k + i))) m) e
     ∙ turn-join (λ i. visited b other (first + i)) l k m
 
@@ -106,6 +101,41 @@ pub all-rows : (b : Blit) (other l r : List ℕ) (first k n : ℕ) → r ≡ inT
 all-rows b other l r first k n e p q =
     let same : k ≡ n = omega arith in
     e ∙ ap (λ k. inTurn (λ i. visited b other (first + i)) k l) same
+
+-- whole rows, and the rest
+module _ (b : Blit) (first n r : ℕ) (q : WholeRows (b .size) first n r) where
+  abbrev done : ℕ
+  done = widthOf (b .size) * r
+
+  pub whole-fits : (other own : ℕ) → Fitting b first n other own → Fitting b 0 done other own
+  whole-fits other own f =
+      record { own-area = f .own-area; other-area = f .other-area; inside = f .inside; visits = omega (arith, f .visits, q .fit) }
+
+  pub rest-fits : (other own own′ : ℕ) → own′ ≡ own → Fitting b first n other own → Fitting b (first + done) (n - done) other own′
+  rest-fits other own own′ e f =
+      record { own-area = e ∙ f .own-area; other-area = f .other-area; inside = f .inside; visits = omega (arith, f .visits, q .fit) }
+
+  pub whole-first : (other l k : List ℕ) → k ≡ inTurn (visited b other) done l → k ≡ inTurn (λ i. visited b other (first + i)) done l
+  whole-first other l k e =
+      by-cases (leb r 0)
+      (λ t.
+      let h = leb-true r 0 t in
+      let zero-rows : r ≡ 0 = omega arith in
+      let none : done ≡ 0 = ap (λ r. widthOf (b .size) * r) zero-rows ∙ (let p : widthOf (b .size) * 0 ≡ 0 = omega arith in p) in
+      e ∙ ap (λ n. inTurn (visited b other) n l) none ∙ sym (turn-none (visited b other) l) ∙ no-visits b first done other l none)
+      (λ t.
+      let h = leb-false r 0 t in
+      let start : first ≡ 0 = q .start (omega arith) in
+      e
+      ∙ turn-agree (visited b other) (λ i. visited b other (first + i)) done l
+      (λ i p t. let same : i ≡ first + i = omega (arith, start) in ap (λ j. visited b other j t) same))
+
+  pub and-rest : (other l k₁ k₂ : List ℕ) → k₁ ≡ inTurn (visited b other) done l
+      → k₂ ≡ inTurn (λ i. visited b other (first + done + i)) (n - done) k₁ → k₂ ≡ inTurn (λ i. visited b other (first + i)) n l
+  and-rest other l k₁ k₂ e g =
+      let all : done + (n - done) ≡ n = omega (arith, q .fit) in
+      visits-more b other l k₁ k₂ first done (first + done) (n - done) (whole-first other l k₁ e) refl g
+      ∙ ap (λ n. inTurn (λ i. visited b other (first + i)) n l) all
 
 -- a blit by the tests that it passes
 pub blit-out : (b : Blit) (first n : ℕ) (other l : List ℕ) → blitFits b first n (length other) (length l) ≡ false → l ≡ blitted b first n other l
@@ -116,6 +146,3 @@ pub blit-in : (b : Blit) (first n : ℕ) (other l : List ℕ) → blitFits b fir
     → inTurn (λ i. visited b other (first + i)) n l ≡ blitted b first n other l
 unfolding blitted
 blit-in b first n other l e = ap (λ t. cond t (inTurn (λ i. visited b other (first + i)) n l) l) (sym e)
-
-pub no-visits : (b : Blit) (first n : ℕ) (other l : List ℕ) → n ≡ 0 → l ≡ inTurn (λ i. visited b other (first + i)) n l
-no-visits b first n other l e = turn-none (λ i. visited b other (first + i)) l ∙ ap (λ n. inTurn (λ i. visited b other (first + i)) n l) (sym e)

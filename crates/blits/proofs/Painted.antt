@@ -1,18 +1,17 @@
 -- A row painted is a row of visits, whatever it is painted from.
 -- Assumes nothing.
-use mathlib.Core.Path.{_≡_, refl, ap, sym, _∙_}
+use mathlib.Core.Path.{_≡_, ap, sym, _∙_}
 use mathlib.Core.Bool.{Bool, true, false}
 use mathlib.Core.List.{List}
-use Prim.Native.Nat.{ℕ, _+_, _-_, _≤_, _<_}
+use Prim.Native.Nat.{ℕ, _+_, _≤_}
 use native.Mathlib.Omega.{arith}
-use lib.ListN.{length, getD}
+use lib.ListN.{length}
 use Rattle.raster.specs.declared.Pen.{Pen}
-use Rattle.rows.specs.Rows.{mixed, sweep, filled, copied, moved, movedBack, filledRow, copiedRow, movedRow, movedBackRow}
+use Rattle.rows.specs.Rows.{mixed, filledRow, copiedRow, movedRow, movedBackRow}
 use Rattle.rows.specs.declared.Mix.{Mix}
 use Rattle.rows.proofs.Orders.{fill-turned, copy-turned}
 use Rattle.rows.proofs.Fitting.{filled-row, copied-row, moved-row, moved-back-row}
 use Rattle.blits.specs.Blits.{rowOf}
-use Rattle.blits.specs.declared.Paint.{Paint}
 use Rattle.blits.specs.declared.Paint.the-variants.{Solid, Copied, Moved}
 
 pub solid-row : (back : Bool) (pen : Pen) (other l r : List ℕ) (at from n : ℕ) → at + n ≤ length l → r ≡ filledRow pen n l at
@@ -39,8 +38,3 @@ pub moved-left : (back : Bool) (mix : Mix) (l r : List ℕ) (at from n : ℕ) �
 unfolding rowOf
 moved-left back mix l r at from n b h k e other =
     e ∙ sym (moved-back-row mix n l (at + n) (from + n) (omega arith) (omega arith) h k) ∙ ap (λ b. rowOf (Moved mix) b other at from n l) (sym b)
-
--- of the paint that it is
-pub by-paint : (p q : Paint) (back : Bool) (other l r : List ℕ) (at from n : ℕ) → p ≡ q → r ≡ rowOf q back other at from n l
-    → r ≡ rowOf p back other at from n l
-by-paint p q back other l r at from n e h = h ∙ ap (λ p. rowOf p back other at from n l) (sym e)

@@ -1,7 +1,7 @@
 -- One row drawn by its parts: what it needs, and that it is the visits of that row.
 -- Assumes nothing.
-use mathlib.Core.Path.{_≡_, refl, ap, ap₂, sym, _∙_}
-use mathlib.Core.Bool.{Bool, true, false, cond, _&&_, false≢true}
+use mathlib.Core.Path.{_≡_, ap, _∙_}
+use mathlib.Core.Bool.{Bool, true, false, _&&_}
 use mathlib.Core.List.{List}
 use Prim.Native.Nat.{ℕ, _+_, _-_, _*_, _≤_, _<_, min, max}
 use native.Mathlib.Omega.{arith}
@@ -14,12 +14,11 @@ use Rattle.geometry.specs.Blit.{widthOf, rightToLeft, away}
 use Rattle.geometry.specs.declared.Window.{Window}
 use Rattle.geometry.proofs.Clips.{area}
 use Rattle.lemmas.specs.Turns.{inTurn}
-use Rattle.blits.specs.Blits.{reads, visited, windowInside, seenColumns, targetRow, sourceRow, rowSeen, rowOf, leftEdge, RowFits}
+use Rattle.blits.specs.Blits.{reads, visited, windowInside, seenColumns, targetRow, sourceRow, rowOf, leftEdge, placeAt, RowFits}
 use Rattle.blits.specs.declared.Blit.{Blit}
-use Rattle.blits.specs.declared.Columns.{Columns}
 use Rattle.blits.proofs.Spans.{x-from}
-use Rattle.blits.proofs.Rowwise.{RowSeen, row-of, Within, within-of}
-use Rattle.blits.proofs.Drawn.{from-least, past-most, row-hidden, row-drawn}
+use Rattle.blits.proofs.Rowwise.{ColumnIn, RowIn, column-of}
+use Rattle.blits.proofs.Drawn.{same-source-row, from-least, past-most, row-hidden, row-drawn}
 
 pub edge-below : (back : Bool) (x a z : ℕ) → x < 131072 → a < 65536 → leftEdge back x a z < 262144
 edge-below true x a z h k = omega arith
@@ -66,22 +65,16 @@ inside-of width height w h =
       bottom-in = leb-true (w .bottom) (origin + height) (and-right (l && r && t) b h);
     }
 
-module _ (b : Blit) (other : List ℕ) (r c m own : ℕ) (f : RowFits b r c m (length other) own) (seen : Columns) (s : seen ≡ seenColumns b) (a z : ℕ)
-    (starts : a ≡ max c (seen .from)) (ends : z ≡ min (c + m) (seen .past)) where
+module _ (b : Blit) (other : List ℕ) (r c m own : ℕ) (f : RowFits b r c m (length other) own) (a z : ℕ)
+    (begins : a ≡ max c (seenColumns b .from)) (stops : z ≡ min (c + m) (seenColumns b .past)) where
   abbrev visit : ℕ → List ℕ → List ℕ
   visit i l = visited b other (widthOf (b .size) * r + c + i) l
-
-  begins : a ≡ max c (seenColumns b .from)
-  begins = starts ∙ ap (λ s. max c (s .from)) s
-
-  stops : z ≡ min (c + m) (seenColumns b .past)
-  stops = ends ∙ ap (λ s. min (c + m) (s .past)) s
 
   pub z-small : z ≤ 65536
   z-small = omega (arith, past-most (c + m) (seenColumns b .past) z stops .0, f .columns, f .size-small)
 
-  pub none-in-row : (l : List ℕ) → rowSeen b r ≡ false → l ≡ inTurn visit m l
-  none-in-row l e = row-hidden b other r c m (f .columns) (f .size-small) l (λ i q t. absurd (false≢true (sym e ∙ t .0)))
+  pub none-in-row : (l : List ℕ) → (RowIn b r → ⊥) → l ≡ inTurn visit m l
+  none-in-row l h = row-hidden b other r c m (f .columns) (f .size-small) l (λ i q t. h (t .0))
 
   pub none-in-columns : (l : List ℕ) → z ≤ a → l ≡ inTurn visit m l
   none-in-columns l h =
@@ -91,43 +84,42 @@ module _ (b : Blit) (other : List ℕ) (r c m own : ℕ) (f : RowFits b r c m (l
       outside : (c m from past a z i : ℕ) → a ≡ max c from → z ≡ min (c + m) past → z ≤ a → i < m → from ≤ c + i → c + i < past → ⊥
       outside c m from past a z i e g h q p t = omega arith
 
-  module _ (some : a < z) (row : rowSeen b r ≡ true) where
+  module _ (some : a < z) (row : RowIn b r) where
     abbrev back : Bool
     back = rightToLeft (b .direction)
 
     abbrev targetPlace : ℕ
-    targetPlace = (targetRow b r - origin) * b .width + (leftEdge back (pointOf (b .to) .x) a z - origin)
+    targetPlace = placeAt (b .to) (b .width) (b .direction) a z r
 
     abbrev sourcePlace : ℕ
-    sourcePlace = (sourceRow b r - origin) * b .width + (leftEdge back (pointOf (b .from) .x) a z - origin)
+    sourcePlace = placeAt (b .from) (b .width) (b .direction) a z r
 
     inside : Inside (b .width) (b .height) (b .window)
     inside = inside-of (b .width) (b .height) (b .window) (f .inside)
 
-    within : (j : ℕ) → a ≤ j → j < z → Within b j
+    within : (j : ℕ) → a ≤ j → j < z → ColumnIn b j
     within j p q =
-        within-of b j (omega (arith, z-small, q))
+        column-of b j (omega (arith, z-small, q))
         (omega (arith, from-least c (seenColumns b .from) a begins .1, p))
         (omega (arith, past-most (c + m) (seenColumns b .past) z stops .1, q))
 
-    first : Within b a
+    first : ColumnIn b a
     first = within a (omega arith) some
 
-    last : Within b (z - 1)
+    last : ColumnIn b (z - 1)
     last = within (z - 1) (omega (arith, some)) (omega (arith, some))
 
     pub target-room : targetPlace + (z - a) ≤ own
     target-room =
         let x = pointOf (b .to) .x in
-        let to = edge-to back x a z (b .window .right) (x-from (b .to)) z-small some (first .target-right) (last .target-right) in
+        let to = edge-to back x a z (b .window .right) (x-from (b .to)) z-small some (first .high) (last .high) in
         let from =
-        edge-from back x a z origin some (omega (arith, inside .left-in, first .target-left)) (omega (arith, inside .left-in, last .target-left)) in
-        let here = row-of b r row in
+        edge-from back x a z origin some (omega (arith, inside .left-in, first .low)) (omega (arith, inside .left-in, last .low)) in
         omega (
           arith,
           f .own-area,
           room (b .width) (b .height) (targetRow b r) (leftEdge back x a z) (z - a) (omega (arith, some)) from (omega (arith, to, inside .right-in))
-              (omega (arith, here .from-top, here .to-bottom, inside .top-in, inside .bottom-in)),
+              (omega (arith, row .low, row .high, inside .top-in, inside .bottom-in)),
         )
 
     pub source-room : reads (b .paint) ≡ true → sourcePlace + (z - a) ≤ own
@@ -136,7 +128,7 @@ module _ (b : Blit) (other : List ℕ) (r c m own : ℕ) (f : RowFits b r c m (l
         let p = first .source t in
         let q = last .source t in
         let to = edge-to back x a z (origin + b .width) (x-from (b .from)) z-small some (p .1) (q .1) in
-        let here = row-of b r row .source t in
+        let here = row .source t in
         omega (
           arith,
           f .own-area,
@@ -144,8 +136,9 @@ module _ (b : Blit) (other : List ℕ) (r c m own : ℕ) (f : RowFits b r c m (l
               (omega (arith, here .0, here .1)),
         )
 
-    pub whole-row : (at from : ℕ) → at ≡ targetPlace → from ≡ sourcePlace → (l k : List ℕ) → k ≡ rowOf (b .paint) back other at from (z - a) l
-        → k ≡ inTurn visit m l
-    whole-row at from p q l k e =
-        e ∙ ap₂ (λ at from. rowOf (b .paint) back other at from (z - a) l) p q
+    pub whole-row : (at from : ℕ) → at ≡ targetPlace → (reads (b .paint) ≡ true → from ≡ sourcePlace) → (l : List ℕ)
+        → rowOf (b .paint) back other at from (z - a) l ≡ inTurn visit m l
+    whole-row at from p q l =
+        ap (λ at. rowOf (b .paint) back other at from (z - a) l) p
+        ∙ same-source-row (b .paint) back other targetPlace from sourcePlace (z - a) l q
         ∙ row-drawn b other r c m (f .columns) (f .size-small) a z begins stops some row (inside .left-in) l

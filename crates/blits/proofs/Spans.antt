@@ -1,38 +1,33 @@
 -- The visits of one row of a blit: which of them are drawn, and where.
 -- Assumes nothing.
-use mathlib.Core.Path.{_≡_, refl, ap, ap₂, sym, _∙_}
-use mathlib.Core.Bool.{Bool, true, false, not, cond, _&&_, _||_, false≢true}
+use mathlib.Core.Path.{_≡_, refl, ap, _∙_}
+use mathlib.Core.Bool.{Bool, true, false, not, cond, _||_}
 use mathlib.Core.List.{List}
-use mathlib.Core.Logic.{_⊎_, inl, inr, ⊎-elim}
-use Prim.Native.Nat.{ℕ, zero, suc, _+_, _-_, _*_, _/_, _%_, _≤_, _<_, min, max}
+use Prim.Native.Nat.{ℕ, _+_, _*_, _/_, _%_, _≤_, _<_}
 use native.Mathlib.Nat.{mul-add-div, mul-add-mod-self-left, mod-eq-of-lt, div-eq-of-lt}
 use native.Mathlib.Omega.{arith}
-use borrow.Author.Tests.{leb-true, ltb-true, le-leb, lt-ltb}
-use lib.Dec.{leb, ltb}
-use lib.ListN.{length, getD, set}
-use Rattle.lemmas.proofs.Booleans.{by-cases, and-left, and-right, both, or-not, not-or}
-use Rattle.geometry.specs.Coordinates.{origin, pointOf}
+use lib.ListN.{getD, set}
+use Rattle.lemmas.proofs.Booleans.{and-left, and-right, both, or-not, not-or}
+use Rattle.geometry.specs.Coordinates.{pointOf}
 use Rattle.geometry.specs.Clip.{inBuffer, inWindow, placeIn}
 use Rattle.geometry.specs.Blit.{widthOf, bottomToTop, rightToLeft, away, blitPoint}
 use Rattle.geometry.specs.declared.Point.{Point}
-use Rattle.geometry.specs.declared.Window.{Window}
-use Rattle.geometry.proofs.Windows.{Shown, shown-of, shown-by, buffer-of, buffer-by}
-use Rattle.lemmas.specs.Turns.{inTurn}
-use Rattle.blits.specs.Blits.{painted, reads, targetAt, sourceAt, drawnAt, visited, columnsOf}
+use Rattle.geometry.proofs.Windows.{Shown, shown-of, shown-by}
+use Rattle.blits.specs.Blits.{painted, reads, targetAt, sourceAt, drawnAt, visited, spanOf}
 use Rattle.blits.specs.declared.Blit.{Blit}
 
--- the columns that are let through
-pub columns-in : (back : Bool) (c lo hi j : ℕ) → 65536 ≤ c → j < 65536 → columnsOf back c lo hi .from ≤ j → j < columnsOf back c lo hi .past
+-- what is let through
+pub span-in : (back : Bool) (c lo hi j : ℕ) → 65536 ≤ c → j < 65536 → spanOf back c lo hi .from ≤ j → j < spanOf back c lo hi .past
     → (lo ≤ away back c j) × (away back c j < hi)
-unfolding columnsOf
-columns-in true c lo hi j high small f p = (omega arith, omega arith)
-columns-in false c lo hi j high small f p = (omega arith, omega arith)
+unfolding spanOf
+span-in true c lo hi j high small f p = (omega arith, omega arith)
+span-in false c lo hi j high small f p = (omega arith, omega arith)
 
-pub columns-of : (back : Bool) (c lo hi j : ℕ) → 65536 ≤ c → j < 65536 → lo ≤ away back c j → away back c j < hi
-    → (columnsOf back c lo hi .from ≤ j) × (j < columnsOf back c lo hi .past)
-unfolding columnsOf
-columns-of true c lo hi j high small f p = (omega arith, omega arith)
-columns-of false c lo hi j high small f p = (omega arith, omega arith)
+pub span-of : (back : Bool) (c lo hi j : ℕ) → 65536 ≤ c → j < 65536 → lo ≤ away back c j → away back c j < hi
+    → (spanOf back c lo hi .from ≤ j) × (j < spanOf back c lo hi .past)
+unfolding spanOf
+span-of true c lo hi j high small f p = (omega arith, omega arith)
+span-of false c lo hi j high small f p = (omega arith, omega arith)
 
 -- a corner's coordinates
 pub x-from : (word : ℕ) → 65536 ≤ pointOf word .x

@@ -1,53 +1,61 @@
--- Visits one after the other, as sweeps.
+-- Visits one after the other, of which some do nothing; as sweeps; and row by row.
 -- Assumes nothing.
 use mathlib.Core.Path.{_≡_, refl, ap, sym, _∙_}
 use mathlib.Core.List.{List}
 use mathlib.Core.Logic.{_⊎_, inl, inr}
-use Prim.Native.Nat.{ℕ, zero, suc, _+_, _-_, _≤_, _<_, min, max}
+use Prim.Native.Nat.{ℕ, zero, suc, _+_, _-_, _*_, _≤_, _<_, min}
+use native.Mathlib.Nat.{mul-suc}
 use native.Mathlib.Omega.{arith}
 use lib.Dec.{leb, ltb}
-use lib.ListN.{length, set}
+use lib.ListN.{set}
 use borrow.Author.Tests.{leb-true, leb-false, ltb-true, ltb-false}
 use Rattle.lemmas.proofs.Booleans.{by-cases}
 use Rattle.rows.specs.Rows.{sweep}
 use Rattle.lemmas.specs.Turns.{inTurn}
+use Rattle.lemmas.proofs.Turns.{turn-none, turn-join, turn-idle}
 
--- visits of which those from a on and before b write one byte, and the others nothing
-module _ (f : ℕ → List ℕ → List ℕ) (place : ℕ → ℕ) (value : ℕ → List ℕ → ℕ) (a b : ℕ) (l : List ℕ) where
-  abbrev shown : ℕ → List ℕ
-  shown n = sweep (λ k. place (a + k)) (λ k. value (a + k)) (min n b - a) l
+-- turns of which only those from a on and before b do anything
+module _ (f : ℕ → List ℕ → List ℕ) (a b n : ℕ) (l : List ℕ) (stays : (i : ℕ) → i < n → (m : List ℕ) → (i < a) ⊎ (b ≤ i) → f i m ≡ m) where
+  abbrev count : ℕ
+  count = min n b - a
 
-  turn-more : (n : ℕ) (m : List ℕ) → m ≡ shown n → ((m : List ℕ) → a ≤ n → n < b → f n m ≡ set m (place n) (value n m))
-      → ((m : List ℕ) → (n < a) ⊎ (b ≤ n) → f n m ≡ m) → f n m ≡ shown (suc n)
-  unfolding sweep
-  turn-more n m e writes stays =
-      by-cases (ltb n a)
+  pub turn-part : inTurn f n l ≡ inTurn (λ k. f (a + k)) count l
+  turn-part =
+      by-cases (leb a (min n b))
       (λ t.
-      let h = ltb-true n a t in
-      let none : min n b - a ≡ min (suc n) b - a = omega arith in
-      stays m (inl h) ∙ e ∙ ap (λ k. sweep (λ k. place (a + k)) (λ k. value (a + k)) k l) none)
+      let h = leb-true a (min n b) t in
+      let whole : n ≡ a + count + (n - min n b) = omega arith in
+      ap (λ n. inTurn f n l) whole ∙ sym (turn-join f l (a + count) (n - min n b))
+      ∙ turn-idle (λ i. f (a + count + i)) (n - min n b) (inTurn f (a + count) l)
+      (λ i p m. stays (a + count + i) (omega arith) m (inr (omega arith)))
+      ∙ sym (turn-join f l a count) ∙ ap (inTurn (λ k. f (a + k)) count) (turn-idle f a l (λ i p m. stays i (omega arith) m (inl p))))
       (λ t.
-      let from = ltb-false n a t in
-      by-cases (ltb n b)
-      (λ u.
-      let h = ltb-true n b u in
-      let k = n - a in
-      let before : min n b - a ≡ k = omega arith in
-      let after : suc k ≡ min (suc n) b - a = omega arith in
-      let same : n ≡ a + k = omega arith in
-      writes m from h
-      ∙ ap (λ m. set m (place n) (value n m)) (e ∙ ap (λ k. sweep (λ k. place (a + k)) (λ k. value (a + k)) k l) before)
-      ∙ ap (λ j. set (sweep (λ k. place (a + k)) (λ k. value (a + k)) k l) (place j) (value j (sweep (λ k. place (a + k)) (λ k. value (a + k)) k l))) same
-      ∙ ap (λ k. sweep (λ k. place (a + k)) (λ k. value (a + k)) k l) after)
-      (λ u.
-      let h = ltb-false n b u in
-      let all : min n b - a ≡ min (suc n) b - a = omega arith in
-      stays m (inr h) ∙ e ∙ ap (λ k. sweep (λ k. place (a + k)) (λ k. value (a + k)) k l) all))
+      let h = leb-false a (min n b) t in
+      let none : 0 ≡ count = omega arith in
+      turn-idle f n l
+      (λ i p m. by-cases (ltb i a) (λ u. stays i p m (inl (ltb-true i a u))) (λ u. let w = ltb-false i a u in stays i p m (inr (omega arith))))
+      ∙ turn-none (λ k. f (a + k)) l ∙ ap (λ k. inTurn (λ k. f (a + k)) k l) none)
 
-  pub turn-sweep : (n : ℕ) → ((i : ℕ) → i < n → (m : List ℕ) → a ≤ i → i < b → f i m ≡ set m (place i) (value i m))
-      → ((i : ℕ) → i < n → (m : List ℕ) → (i < a) ⊎ (b ≤ i) → f i m ≡ m) → inTurn f n l ≡ shown n
-  unfolding inTurn sweep
-  turn-sweep zero writes stays = let none : 0 ≡ min 0 b - a = omega arith in ap (λ k. sweep (λ k. place (a + k)) (λ k. value (a + k)) k l) none
-  turn-sweep (suc n) writes stays =
-      turn-more n (inTurn f n l) (turn-sweep n (λ i p. writes i (omega arith)) (λ i p. stays i (omega arith))) (writes n (omega arith))
-      (stays n (omega arith))
+-- turns that write one byte each
+all-sweep : (f : ℕ → List ℕ → List ℕ) (place : ℕ → ℕ) (value : ℕ → List ℕ → ℕ) (l : List ℕ) (n : ℕ)
+    → ((i : ℕ) → i < n → (m : List ℕ) → f i m ≡ set m (place i) (value i m)) → inTurn f n l ≡ sweep place value n l
+unfolding inTurn sweep
+all-sweep f place value l zero writes = refl
+all-sweep f place value l (suc n) writes =
+    writes n (omega arith) (inTurn f n l) ∙ ap (λ m. set m (place n) (value n m)) (all-sweep f place value l n (λ i p. writes i (omega arith)))
+
+pub turn-sweep : (f : ℕ → List ℕ → List ℕ) (place : ℕ → ℕ) (value : ℕ → List ℕ → ℕ) (a b : ℕ) (l : List ℕ) (n : ℕ)
+    → ((i : ℕ) → i < n → (m : List ℕ) → a ≤ i → i < b → f i m ≡ set m (place i) (value i m))
+    → ((i : ℕ) → i < n → (m : List ℕ) → (i < a) ⊎ (b ≤ i) → f i m ≡ m)
+    → inTurn f n l ≡ sweep (λ k. place (a + k)) (λ k. value (a + k)) (min n b - a) l
+turn-sweep f place value a b l n writes stays =
+    turn-part f a b n l stays
+    ∙ all-sweep (λ k. f (a + k)) (λ k. place (a + k)) (λ k. value (a + k)) l (min n b - a)
+    (λ i p m. writes (a + i) (omega arith) m (omega arith) (omega arith))
+
+-- w turns for each of so many rows
+pub turn-rows : (f : ℕ → List ℕ → List ℕ) (w rows : ℕ) (l : List ℕ) → inTurn (λ r. inTurn (λ i. f (w * r + i)) w) rows l ≡ inTurn f (w * rows) l
+unfolding inTurn
+turn-rows f w zero l = let e : w * 0 ≡ 0 = omega arith in rw e
+turn-rows f w (suc r) l =
+    ap (inTurn (λ i. f (w * r + i)) w) (turn-rows f w r l) ∙ turn-join f l (w * r) w ∙ ap (λ n. inTurn f n l) (sym (mul-suc w r))

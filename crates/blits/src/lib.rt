@@ -1,14 +1,14 @@
 // Many pixels of a blit at once, row by row (document 01, Pixels).
 ghost use mathlib.Core.Path.{_≡_};
-ghost use mathlib.Core.Bool.{true};
+ghost use mathlib.Core.Bool.{Bool, true};
 ghost use Prim.Native.Nat.{ℕ, _+_, _-_, _*_, _≤_, _<_, min, max};
 ghost use mathlib.Core.List.{List};
 ghost use lib.ListN.{length};
 ghost use Rattle.geometry.specs.Coordinates.{origin};
 ghost use Rattle.geometry.specs.Blit.{widthOf, blitCount, away};
-ghost use Rattle.blits.specs.declared.Paint.the-variants.{Moved};
+ghost use Rattle.blits.specs.declared.Paint.the-variants.{Solid, Copied, Moved};
 ghost use Rattle.lemmas.specs.Turns.{inTurn};
-ghost use Rattle.blits.specs.Blits.{reads, visited, windowInside, blitFits, blitted, columnsOf, seenColumns, rowSeen, rowOf, leftEdge, RowFits};
+ghost use Rattle.blits.specs.Blits.{reads, visited, windowInside, blitFits, blitted, spanOf, seenSpan, seenColumns, seenRows, partOf, rowOf, rowAt, leftEdge, placeAt, boxOf, Fitting, RowFits, RowsFit, BoxFits, WholeRows};
 use geometry::ORIGIN;
 use geometry::Window;
 use geometry::blit_count;
@@ -39,24 +39,24 @@ pub struct Blit {
     pub paint: Paint,
 }
 
-// Columns from <= j < past.
-pub struct Columns {
+// Columns or rows from <= j < past.
+pub struct Span {
     pub from: usize,
     pub past: usize,
 }
 
-// The columns whose pixel, j from c on or back, is at lo <= x < hi.
-fn visible_columns(back: bool, c: usize, lo: usize, hi: usize) -> Columns
+// The j whose pixel, j from c on or back, is at lo <= x < hi.
+fn visible(back: bool, c: usize, lo: usize, hi: usize) -> Span
     requires { ⌜ c < 131072 ⌝ }
-    ensures { λ r. ⌜ r ≡ columnsOf back c lo hi ⌝ }
+    ensures { λ r. ⌜ r ≡ spanOf back c lo hi ⌝ }
 {
     if back {
-        return Columns {
+        return Span {
             from: less(c + 1, hi),
             past: less(c + 1, lo),
         };
     }
-    Columns {
+    Span {
         from: less(lo, c),
         past: less(hi, c),
     }
@@ -83,10 +83,10 @@ fn smaller(a: usize, b: usize) -> usize
 
 // The coordinate k pixels from c, on or back.
 fn along(back: bool, c: usize, k: usize) -> usize
-    requires { ⌜ (k ≤ c) × (c < 131072) × (k < 65536) ⌝ }
+    requires { ⌜ c + k < 18446744073709551616 ⌝ }
     ensures { λ r. ⌜ r ≡ away back c k ⌝ }
 {
-    if back { c - k } else { c + k }
+    if back { less(c, k) } else { c + k }
 }
 
 // The left edge of columns a to before z.
@@ -105,6 +105,17 @@ fn place_in(width: u32, x: usize, y: usize) -> usize
     less(y, ORIGIN) * (width as usize) + less(x, ORIGIN)
 }
 
+// Where columns a to before z of a row begin, in a blit that starts at a corner.
+fn place_at(corner: u32, width: u32, direction: u32, a: usize, z: usize, row: usize) -> usize
+    requires { ⌜ (a < z) × (z ≤ 65536) × (row < 65536) ⌝ }
+    ensures { λ r. ⌜ r ≡ placeAt corner width direction a z row ⌝ }
+{
+    let c = point_of(corner);
+    let x = left_edge(direction / 2 % 2 == 1, c.x, a, z);
+    let y = along(direction % 2 == 1, c.y, row);
+    place_in(width, x, y)
+}
+
 // Whether pixels of a buffer are read.
 fn reads_pixels(paint: Paint) -> bool
     ensures { λ r. ⌜ r ≡ reads paint ⌝ }
@@ -116,37 +127,56 @@ fn reads_pixels(paint: Paint) -> bool
     }
 }
 
-// The columns that can be drawn.
-fn seen_columns(b: Blit) -> Columns
-    ensures { λ r. ⌜ r ≡ seenColumns b ⌝ }
+// The j that can be drawn: j from t on or back in the window, and where pixels are read, j from s in a buffer of `size`.
+fn seen_span(reads: bool, back: bool, t: usize, lo: usize, hi: usize, s: usize, size: u32) -> Span
+    requires { ⌜ (t < 131072) × (s < 131072) ⌝ }
+    ensures { λ r. ⌜ r ≡ seenSpan reads back t lo hi s size ⌝ }
 {
-    let w = b.window;
-    let paint = b.paint;
-    let back = b.direction / 2 % 2 == 1;
-    let target = visible_columns(back, point_of(b.to).x, w.left, w.right);
-    let source = visible_columns(back, point_of(b.from).x, ORIGIN, ORIGIN + b.width as usize);
+    let target = visible(back, t, lo, hi);
+    let source = visible(back, s, ORIGIN, ORIGIN + size as usize);
     let from = larger(target.from, source.from);
     let past = smaller(target.past, source.past);
-    if reads_pixels(paint) {
-        return Columns { from, past };
+    if reads {
+        return Span { from, past };
     }
     target
 }
 
-// Whether a row can be drawn.
-fn row_seen(b: Blit, row: usize) -> bool
-    requires { ⌜ row < 65536 ⌝ }
-    ensures { λ r. ⌜ r ≡ rowSeen b row ⌝ }
+// The columns that can be drawn.
+fn seen_columns(b: Blit) -> Span
+    ensures { λ r. ⌜ r ≡ seenColumns b ⌝ }
 {
     let w = b.window;
     let paint = b.paint;
+    let reads = reads_pixels(paint);
+    let back = b.direction / 2 % 2 == 1;
+    let target = point_of(b.to);
+    let source = point_of(b.from);
+    seen_span(reads, back, target.x, w.left, w.right, source.x, b.width)
+}
+
+// The rows that can be drawn.
+fn seen_rows(b: Blit) -> Span
+    ensures { λ r. ⌜ r ≡ seenRows b ⌝ }
+{
+    let w = b.window;
+    let paint = b.paint;
+    let reads = reads_pixels(paint);
     let up = b.direction % 2 == 1;
-    let y = along(up, point_of(b.to).y, row);
-    let source = along(up, point_of(b.from).y, row);
-    let bottom = ORIGIN + b.height as usize;
-    (w.top <= y)
-        & (y < w.bottom)
-        & (!reads_pixels(paint) | ((ORIGIN <= source) & (source < bottom)))
+    let target = point_of(b.to);
+    let source = point_of(b.from);
+    seen_span(reads, up, target.y, w.top, w.bottom, source.y, b.height)
+}
+
+// Those of n from `from` on that are seen.
+fn part(seen: Span, from: usize, n: usize) -> Span
+    requires { ⌜ from + n < 18446744073709551616 ⌝ }
+    ensures { λ r. ⌜ r ≡ partOf seen from n ⌝ }
+{
+    Span {
+        from: larger(from, seen.from),
+        past: smaller(from + n, seen.past),
+    }
 }
 
 // n pixels of a row from the same buffer.
@@ -161,74 +191,183 @@ fn move_pixels(back: bool, buffer: &mut [u8], at: usize, from: usize, n: usize, 
     move_row(buffer, at, from, n, mix);
 }
 
-// n pixels of a row.
-fn paint_row(
-    paint: Paint,
-    back: bool,
+// n pixels of each of so many rows, down or up from a row that begins at `at`.
+fn fill_rows(up: bool, width: usize, buffer: &mut [u8], at: usize, n: usize, rows: usize, pen: Pen)
+    requires { ⌜ RowsFit up width at n rows (length (now buffer)) ⌝ }
+    ensures { λ _. ⌜ ((back : Bool) (other : List ℕ) (from : ℕ) → now (buffer .exit) ≡ inTurn (rowAt (Solid pen) back up width other at from n) rows (now (buffer .entry))) ⌝ }
+{
+    let mut to = at;
+    let mut k: usize = 0;
+    while k < rows {
+        fill_row(buffer, to, n, pen);
+        to = along(up, to, width);
+        k += 1;
+    }
+}
+
+fn copy_rows(
+    up: bool,
+    width: usize,
     buffer: &mut [u8],
     at: usize,
     other: &[u8],
     from: usize,
     n: usize,
+    rows: usize,
+    mix: Mix,
 )
-    requires { ⌜ (at + n ≤ length (now buffer)) × (length (now other) ≡ length (now buffer)) × (reads paint ≡ true → from + n ≤ length (now buffer)) ⌝ }
-    ensures { λ _. ⌜ now (buffer .exit) ≡ rowOf paint back (now (other .entry)) at from n (now (buffer .entry)) ⌝ }
+    requires { ⌜ RowsFit up width at n rows (length (now buffer)) × RowsFit up width from n rows (length (now other)) ⌝ }
+    ensures { λ _. ⌜ ((back : Bool) → now (buffer .exit) ≡ inTurn (rowAt (Copied mix) back up width (now (other .entry)) at from n) rows (now (buffer .entry))) ⌝ }
+{
+    let mut to = at;
+    let mut source = from;
+    let mut k: usize = 0;
+    while k < rows {
+        copy_row(buffer, to, other, source, n, mix);
+        to = along(up, to, width);
+        source = along(up, source, width);
+        k += 1;
+    }
+}
+
+fn move_rows(
+    back: bool,
+    up: bool,
+    width: usize,
+    buffer: &mut [u8],
+    at: usize,
+    from: usize,
+    n: usize,
+    rows: usize,
+    mix: Mix,
+)
+    requires { ⌜ RowsFit up width at n rows (length (now buffer)) × RowsFit up width from n rows (length (now buffer)) ⌝ }
+    ensures { λ _. ⌜ ((other : List ℕ) → now (buffer .exit) ≡ inTurn (rowAt (Moved mix) back up width other at from n) rows (now (buffer .entry))) ⌝ }
+{
+    let mut to = at;
+    let mut source = from;
+    let mut k: usize = 0;
+    while k < rows {
+        move_pixels(back, buffer, to, source, n, mix);
+        to = along(up, to, width);
+        source = along(up, source, width);
+        k += 1;
+    }
+}
+
+// The same, whatever the rows are painted from: a loop for each.
+fn paint_rows(
+    paint: Paint,
+    back: bool,
+    up: bool,
+    width: usize,
+    buffer: &mut [u8],
+    at: usize,
+    other: &[u8],
+    from: usize,
+    n: usize,
+    rows: usize,
+)
+    requires { ⌜ RowsFit up width at n rows (length (now buffer)) × (length (now other) ≡ length (now buffer)) × (reads paint ≡ true → RowsFit up width from n rows (length (now buffer))) ⌝ }
+    ensures { λ _. ⌜ now (buffer .exit) ≡ inTurn (rowAt paint back up width (now (other .entry)) at from n) rows (now (buffer .entry)) ⌝ }
 {
     match paint {
         Paint::Solid(pen) => {
-            fill_row(buffer, at, n, pen);
+            fill_rows(up, width, buffer, at, n, rows, pen);
         }
         Paint::Copied(mix) => {
-            copy_row(buffer, at, other, from, n, mix);
+            copy_rows(up, width, buffer, at, other, from, n, rows, mix);
         }
         Paint::Moved(mix) => {
-            move_pixels(back, buffer, at, from, n, mix);
+            move_rows(back, up, width, buffer, at, from, n, rows, mix);
         }
     }
+}
+
+// The columns and rows given, of a blit from corner to corner.
+fn paint_box(
+    paint: Paint,
+    width: u32,
+    to: u32,
+    from: u32,
+    direction: u32,
+    across: Span,
+    down: Span,
+    buffer: &mut [u8],
+    other: &[u8],
+)
+    requires { ⌜ BoxFits paint width to from direction across down (length (now other)) (length (now buffer)) ⌝ }
+    ensures { λ _. ⌜ now (buffer .exit) ≡ boxOf paint width to from direction across down (now (other .entry)) (now (buffer .entry)) ⌝ }
+{
+    let a = across.from;
+    let z = across.past;
+    let top = down.from;
+    let bottom = down.past;
+    if z <= a {
+        return;
+    }
+    if bottom <= top {
+        return;
+    }
+    let target = place_at(to, width, direction, a, z, top);
+    let source = place_at(from, width, direction, a, z, top);
+    let back = direction / 2 % 2 == 1;
+    let up = direction % 2 == 1;
+    paint_rows(
+        paint,
+        back,
+        up,
+        width as usize,
+        buffer,
+        target,
+        other,
+        source,
+        z - a,
+        bottom - top,
+    );
 }
 
 // m visits of one row from a column on.
 fn draw_row(
     b: Blit,
-    seen: Columns,
+    seen: Span,
+    down: Span,
     row: usize,
     column: usize,
     m: usize,
     buffer: &mut [u8],
     other: &[u8],
 )
-    requires { ⌜ RowFits b row column m (length (now other)) (length (now buffer)) × (seen ≡ seenColumns b) ⌝ }
+    requires { ⌜ RowFits b row column m (length (now other)) (length (now buffer)) × (seen ≡ seenColumns b) × (down ≡ seenRows b) ⌝ }
     ensures { λ _. ⌜ now (buffer .exit) ≡ inTurn (λ i. visited b (now (other .entry)) (widthOf (b .size) * row + column + i)) m (now (buffer .entry)) ⌝ }
 {
-    let a = larger(column, seen.from);
-    let z = smaller(column + m, seen.past);
-    if !row_seen(b, row) {
-        return;
-    }
-    if z <= a {
-        return;
-    }
     let paint = b.paint;
-    let back = b.direction / 2 % 2 == 1;
-    let up = b.direction % 2 == 1;
-    let target = point_of(b.to);
-    let source = point_of(b.from);
-    let at = place_in(
+    let columns = part(seen, column, m);
+    let one = part(down, row, 1);
+    paint_box(
+        paint,
         b.width,
-        left_edge(back, target.x, a, z),
-        along(up, target.y, row),
+        b.to,
+        b.from,
+        b.direction,
+        columns,
+        one,
+        buffer,
+        other,
     );
-    let from = place_in(
-        b.width,
-        left_edge(back, source.x, a, z),
-        along(up, source.y, row),
-    );
-    paint_row(paint, back, buffer, at, other, from, z - a);
 }
 
 // n visits from visit `first` on, row by row.
-fn draw_rows(b: Blit, seen: Columns, first: usize, n: usize, buffer: &mut [u8], other: &[u8])
-    requires { ⌜ (0 < n) × (blitFits b first n (length (now other)) (length (now buffer)) ≡ true) × (seen ≡ seenColumns b) ⌝ }
+fn draw_rows(
+    b: Blit,
+    seen: Span,
+    down: Span,
+    first: usize,
+    n: usize,
+    buffer: &mut [u8],
+    other: &[u8],
+)
+    requires { ⌜ (0 < n) × Fitting b first n (length (now other)) (length (now buffer)) × (seen ≡ seenColumns b) × (down ≡ seenRows b) ⌝ }
     ensures { λ _. ⌜ now (buffer .exit) ≡ inTurn (λ i. visited b (now (other .entry)) (first + i)) n (now (buffer .entry)) ⌝ }
 {
     let across = (b.size / 65536) as usize;
@@ -237,11 +376,62 @@ fn draw_rows(b: Blit, seen: Columns, first: usize, n: usize, buffer: &mut [u8], 
     let mut k: usize = 0;
     while first + k < first + n {
         let m = smaller(n - k, across - column);
-        draw_row(b, seen, row, column, m, buffer, other);
+        draw_row(b, seen, down, row, column, m, buffer, other);
         k += m;
         row += 1;
         column = 0;
     }
+}
+
+// Whole rows from the first on, at once.
+fn draw_whole(b: Blit, seen: Span, down: Span, rows: usize, buffer: &mut [u8], other: &[u8])
+    requires { ⌜ (0 < widthOf (b .size)) × Fitting b 0 (widthOf (b .size) * rows) (length (now other)) (length (now buffer)) × (seen ≡ seenColumns b) × (down ≡ seenRows b) ⌝ }
+    ensures { λ _. ⌜ now (buffer .exit) ≡ inTurn (visited b (now (other .entry))) (widthOf (b .size) * rows) (now (buffer .entry)) ⌝ }
+{
+    let paint = b.paint;
+    let columns = part(seen, 0, (b.size / 65536) as usize);
+    let lines = part(down, 0, rows);
+    paint_box(
+        paint,
+        b.width,
+        b.to,
+        b.from,
+        b.direction,
+        columns,
+        lines,
+        buffer,
+        other,
+    );
+}
+
+// How many whole rows n visits from visit `first` on start with; counted from the first visit alone.
+fn whole_rows(size: u32, first: usize, n: usize) -> usize
+    requires { ⌜ (0 < widthOf size) × (first + n ≤ blitCount size) ⌝ }
+    ensures { λ r. ⌜ WholeRows size first n r ⌝ }
+{
+    if n == blit_count(size) {
+        return (size % 65536) as usize;
+    }
+    if first == 0 {
+        return n / ((size / 65536) as usize);
+    }
+    0
+}
+
+// n visits from visit `first` on: whole rows at once, and what is left row by row.
+fn draw_visits(b: Blit, first: usize, n: usize, buffer: &mut [u8], other: &[u8])
+    requires { ⌜ (0 < n) × Fitting b first n (length (now other)) (length (now buffer)) ⌝ }
+    ensures { λ _. ⌜ now (buffer .exit) ≡ inTurn (λ i. visited b (now (other .entry)) (first + i)) n (now (buffer .entry)) ⌝ }
+{
+    let seen = seen_columns(b);
+    let down = seen_rows(b);
+    let rows = whole_rows(b.size, first, n);
+    let done = (b.size / 65536) as usize * rows;
+    draw_whole(b, seen, down, rows, buffer, other);
+    if n == done {
+        return;
+    }
+    draw_rows(b, seen, down, first + done, n - done, buffer, other);
 }
 
 // Whether both buffers have the blit's size, with the window inside, and the blit so many visits.
@@ -276,5 +466,5 @@ pub fn draw_blit(b: Blit, first: usize, n: usize, buffer: &mut [u8], other: &[u8
     if n == 0 {
         return;
     }
-    draw_rows(b, seen_columns(b), first, n, buffer, other);
+    draw_visits(b, first, n, buffer, other);
 }

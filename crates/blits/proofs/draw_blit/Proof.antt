@@ -5,7 +5,7 @@ use native.Mathlib.Omega.{arith}
 use borrow.Author.Tests.{not-true, not-false}
 use lib.ListN.{length}
 use Rattle.blits.specs.Blits.{blitFits}
-use Rattle.blits.proofs.Loops.{blit-out, blit-in, no-visits}
+use Rattle.blits.proofs.Loops.{fitting-of, blit-out, blit-in, no-visits}
 use Rattle.blits.proofs.draw_blit.Statement.{statement}
 use Rattle.blits.proofs.draw_blit.Tie as tie
 
@@ -21,11 +21,8 @@ fits c = sym (c .before .blit-fits .ensures) ∙ not-false _ (c .if1 .left)
 returns-2 : tie.Need-returns-2
 returns-2 c = no-visits _ _ _ _ _ (c .if2 .taken) ∙ blit-in _ _ _ _ _ (fits (c .before))
 
-seen-columns-requires : tie.Need-seen-columns-requires
-seen-columns-requires c κs = search needs
-
-draw-rows-requires : tie.Need-draw-rows-requires
-draw-rows-requires c κs = (omega arith, fits (c .before .before .before), c .before .seen-columns .ensures)
+draw-visits-requires : tie.Need-draw-visits-requires
+draw-visits-requires c κs = (omega arith, fitting-of _ _ _ _ _ (fits (c .before .before)))
 
 same-length : tie.Need-same-length
 same-length c = search needs
@@ -33,7 +30,7 @@ same-length c = search needs
 returns-3 : tie.Need-returns-3
 returns-3 c =
     let done = c .before .before in
-    done .draw-rows .ensures ∙ blit-in _ _ _ _ _ (fits (done .before .before .before .before))
+    done .draw-visits .ensures ∙ blit-in _ _ _ _ _ (fits (done .before .before .before))
 
 pub draw-blit-spec : {M : Type 1} → statement M
 draw-blit-spec =
@@ -42,7 +39,6 @@ draw-blit-spec =
     blit-fits-requires
     returns
     returns-2
-    seen-columns-requires
-    draw-rows-requires
+    draw-visits-requires
     same-length
     returns-3)

@@ -1,7 +1,7 @@
 use borrow.Author.Needs.{needs}
-use Rattle.blits.specs.Blits.{columnsOf}
-use Rattle.blits.proofs.visible_columns.Statement.{statement}
-use Rattle.blits.proofs.visible_columns.Tie as tie
+use Rattle.blits.specs.Blits.{spanOf}
+use Rattle.blits.proofs.visible.Statement.{statement}
+use Rattle.blits.proofs.visible.Tie as tie
 
 add-less : tie.Need-add-less
 add-less c = search needs
@@ -16,7 +16,7 @@ less-requires-2 : tie.Need-less-requires-2
 less-requires-2 c κs = search needs
 
 returns : tie.Need-returns
-unfolding columnsOf
+unfolding spanOf
 returns c = rw (c .less2 .ensures, c .before .less .ensures, c .before .before .if1 .taken)
 
 less-requires-3 : tie.Need-less-requires-3
@@ -26,11 +26,11 @@ less-requires-4 : tie.Need-less-requires-4
 less-requires-4 c κs = search needs
 
 returns-2 : tie.Need-returns-2
-unfolding columnsOf
+unfolding spanOf
 returns-2 c = rw (c .less4 .ensures, c .before .less3 .ensures, c .before .before .if1 .left)
 
-pub visible-columns-spec : {M : Type 1} → statement M
-visible-columns-spec =
+pub visible-spec : {M : Type 1} → statement M
+visible-spec =
     tie.close
     (tie.spec
     add-less

@@ -1,0 +1,294 @@
+-- The visits of a blit's rows are a box of columns and rows, painted row after row.
+-- Assumes nothing.
+use mathlib.Core.Path.{_≡_, refl, ap, ap₂, sym, subst, _∙_}
+use mathlib.Core.Bool.{Bool, true, false}
+use mathlib.Core.List.{List}
+use mathlib.Core.Logic.{_⊎_, ⊎-elim}
+use Prim.Native.Nat.{ℕ, suc, _+_, _-_, _*_, _≤_, _<_, min, max}
+use native.Mathlib.Nat.{add-mul, mul-comm, mul-suc, mul-le-mul-left}
+use native.Mathlib.Omega.{arith}
+use borrow.Author.Tests.{leb-true, leb-false}
+use lib.Dec.{leb}
+use lib.ListN.{length}
+use Rattle.lemmas.proofs.Booleans.{by-cases}
+use Rattle.lemmas.specs.Turns.{inTurn}
+use Rattle.lemmas.proofs.Turns.{turn-none, turn-more, turn-agree, turn-idle}
+use Rattle.geometry.specs.Coordinates.{origin, pointOf}
+use Rattle.geometry.specs.Blit.{widthOf, heightOf, bottomToTop, rightToLeft, away}
+use Rattle.rows.specs.Rows.{sweep}
+use Rattle.blits.specs.Blits.{reads, visited, seenColumns, seenRows, partOf, rowOf, rowAt, leftEdge, placeAt, boxOf, Fitting, RowFits, BoxFits}
+use Rattle.blits.specs.declared.Blit.{Blit}
+use Rattle.blits.specs.declared.Paint.{Paint}
+use Rattle.blits.specs.declared.Span.{Span}
+use Rattle.blits.proofs.Bounds.{area-far}
+use Rattle.blits.proofs.Sweeping.{turn-part, turn-rows}
+use Rattle.blits.proofs.Spans.{y-from}
+use Rattle.blits.proofs.Loops.{row-below}
+use Rattle.blits.proofs.Rowwise.{RowIn, row-of, row-by}
+use Rattle.blits.proofs.Drawn.{from-least, past-most, before-from, after-past}
+use Rattle.blits.proofs.Rooms.{Inside, inside-of, z-small, none-in-row, none-in-columns, target-room, source-room, whole-row}
+
+-- a row of no pixels
+no-pixels : (paint : Paint) (back : Bool) (other : List ℕ) (at from : ℕ) (l : List ℕ) → rowOf paint back other at from 0 l ≡ l
+unfolding rowOf sweep
+no-pixels paint false other at from l = refl
+no-pixels paint true other at from l = refl
+
+row-none : (paint : Paint) (back : Bool) (other : List ℕ) (at from n : ℕ) (l : List ℕ) → n ≡ 0 → rowOf paint back other at from n l ≡ l
+row-none paint back other at from n l e = ap (λ n. rowOf paint back other at from n l) e ∙ no-pixels paint back other at from l
+
+module _ (paint : Paint) (width to from direction : ℕ) (across down : Span) (other l : List ℕ) where
+  abbrev target : ℕ
+  target = placeAt to width direction (across .from) (across .past) (down .from)
+
+  abbrev source : ℕ
+  source = placeAt from width direction (across .from) (across .past) (down .from)
+
+  abbrev rows : ℕ → ℕ → ℕ → ℕ → List ℕ
+  rows at from n k = inTurn (rowAt paint (rightToLeft direction) (bottomToTop direction) width other at from n) k l
+
+  pub no-columns : across .past ≤ across .from → l ≡ boxOf paint width to from direction across down other l
+  unfolding boxOf
+  no-columns h =
+      sym
+      (turn-idle (rowAt paint (rightToLeft direction) (bottomToTop direction) width other target source (across .past - across .from))
+      (down .past - down .from) l
+      (λ k p t.
+      row-none paint (rightToLeft direction) other (away (bottomToTop direction) target (width * k)) (away (bottomToTop direction) source (width * k))
+      (across .past - across .from) t (omega arith)))
+
+  pub no-rows : down .past ≤ down .from → l ≡ boxOf paint width to from direction across down other l
+  unfolding boxOf
+  no-rows h =
+      let none : 0 ≡ down .past - down .from = omega arith in
+      turn-none (rowAt paint (rightToLeft direction) (bottomToTop direction) width other target source (across .past - across .from)) l
+      ∙ ap (rows target source (across .past - across .from)) none
+
+  pub box-painted : (at start : ℕ) (k : List ℕ) → at ≡ target → start ≡ source → k ≡ rows at start (across .past - across .from) (down .past - down .from)
+      → k ≡ boxOf paint width to from direction across down other l
+  unfolding boxOf
+  box-painted at start k p q e = e ∙ ap₂ (λ at start. rows at start (across .past - across .from) (down .past - down .from)) p q
+
+-- rows k apart are width * k apart in a buffer
+moved-down : (width y e t k o : ℕ) → o ≤ y + t → (y + t - o) * width + e + width * k ≡ (y + (t + k) - o) * width + e
+moved-down width y e t k o h =
+    let u = y + t - o in
+    let far : y + (t + k) - o ≡ u + k = omega arith in
+    rw far (apart (u * width) (k * width) ((u + k) * width) (width * k) e (add-mul u k width) (mul-comm width k))
+  where
+    apart : (a b s p e : ℕ) → s ≡ a + b → p ≡ b → a + e + p ≡ s + e
+    apart a b s p e h q = omega arith
+
+moved-up : (width y e t k o : ℕ) → o ≤ y - (t + k) → o + k ≤ y - t → (y - t - o) * width + e - width * k ≡ (y - (t + k) - o) * width + e
+moved-up width y e t k o h n =
+    let u = y - (t + k) - o in
+    let near : y - t - o ≡ u + k = omega arith in
+    rw near (apart (u * width) (k * width) ((u + k) * width) (width * k) e (add-mul u k width) (mul-comm width k))
+  where
+    apart : (a b s p e : ℕ) → s ≡ a + b → p ≡ b → s + e - p ≡ a + e
+    apart a b s p e h q = omega arith
+
+moved-on : (up : Bool) (width y e t k : ℕ) → 65536 ≤ y → t + k < 65536 → origin ≤ away up y t → origin ≤ away up y (t + k)
+    → away up ((away up y t - origin) * width + e) (width * k) ≡ (away up y (t + k) - origin) * width + e
+moved-on true width y e t k high small p q = moved-up width y e t k origin q (omega arith)
+moved-on false width y e t k high small p q = moved-down width y e t k origin p
+
+-- how many of the rows from `row` on are from p to before q
+counted : (row rows p q : ℕ) → row ≤ p → q ≤ row + rows → min rows (q - row) - (p - row) ≡ q - p
+counted row rows p q low high = omega arith
+
+-- m visits of each of so many rows from `row` on, from column c on
+module _ (b : Blit) (other : List ℕ) (row rows c m own : ℕ) (fits : (r : ℕ) → row ≤ r → r < row + rows → RowFits b r c m (length other) own)
+    (across down : Span) (columns : across ≡ partOf (seenColumns b) c m) (lines : down ≡ partOf (seenRows b) row rows) where
+  abbrev rowVisits : ℕ → List ℕ → List ℕ
+  rowVisits r = inTurn (λ i. visited b other (widthOf (b .size) * r + c + i)) m
+
+  abbrev a : ℕ
+  a = across .from
+
+  abbrev z : ℕ
+  z = across .past
+
+  abbrev top : ℕ
+  top = down .from
+
+  abbrev bottom : ℕ
+  bottom = down .past
+
+  begins : a ≡ max c (seenColumns b .from)
+  begins = ap (λ s. s .from) columns
+
+  stops : z ≡ min (c + m) (seenColumns b .past)
+  stops = ap (λ s. s .past) columns
+
+  starts : top ≡ max row (seenRows b .from)
+  starts = ap (λ s. s .from) lines
+
+  ends : bottom ≡ min (row + rows) (seenRows b .past)
+  ends = ap (λ s. s .past) lines
+
+  -- row top + k is one of the rows, and is seen
+  module _ (k : ℕ) (h : k < bottom - top) where
+    row-fits : RowFits b (top + k) c m (length other) own
+    row-fits = fits (top + k) (omega (arith, starts)) (omega (arith, ends, h))
+
+    row-in : RowIn b (top + k)
+    row-in = row-of b (top + k) (row-fits .row-small) (omega (arith, starts)) (omega (arith, ends, h))
+
+  top-in : top < bottom → RowIn b top
+  top-in h = let e : top + 0 ≡ top = omega arith in subst (RowIn b) e (row-in 0 (omega arith))
+
+  inside : top < bottom → Inside (b .width) (b .height) (b .window)
+  inside h = inside-of (b .width) (b .height) (b .window) (row-fits 0 (omega arith) .inside)
+
+  abbrev up : Bool
+  up = bottomToTop (b .direction)
+
+  abbrev place : ℕ → ℕ → ℕ
+  place corner r = placeAt corner (b .width) (b .direction) a z r
+
+  target-on : (k : ℕ) → k < bottom - top → away up (place (b .to) top) (b .width * k) ≡ place (b .to) (top + k)
+  target-on k h =
+      let some : top < bottom = omega arith in
+      let window = inside some .top-in in
+      moved-on up (b .width) (pointOf (b .to) .y) (leftEdge (rightToLeft (b .direction)) (pointOf (b .to) .x) a z - origin) top k (y-from (b .to))
+      (row-fits k h .row-small) (omega (arith, window, top-in some .low)) (omega (arith, window, row-in k h .low))
+
+  source-on : reads (b .paint) ≡ true → (k : ℕ) → k < bottom - top → away up (place (b .from) top) (b .width * k) ≡ place (b .from) (top + k)
+  source-on t k h =
+      moved-on up (b .width) (pointOf (b .from) .y) (leftEdge (rightToLeft (b .direction)) (pointOf (b .from) .x) a z - origin) top k (y-from (b .from))
+      (row-fits k h .row-small) (top-in (omega arith) .source t .0) (row-in k h .source t .0)
+
+  pub box-fits : b .width < 4294967296 → b .height < 4294967296 → bottom ≤ 65536 → z ≤ 65536 → length other ≡ own
+      → own ≡ b .width * b .height → BoxFits (b .paint) (b .width) (b .to) (b .from) (b .direction) across down (length other) own
+  box-fits wide high rows-small columns-small same area =
+      record {
+        across-small = columns-small;
+        down-small = rows-small;
+        same = same;
+        target =
+            λ some lines.
+            record {
+              within =
+                  λ k h.
+                  rw (target-on k h) (target-room b other (top + k) c m own (row-fits k h) a z begins stops some (row-in k h));
+              far = omega (arith, area, area-far (b .width) (b .height) wide high);
+            };
+        source =
+            λ t some lines.
+            record {
+              within =
+                  λ k h.
+                  rw (source-on t k h) (source-room b other (top + k) c m own (row-fits k h) a z begins stops some (row-in k h) t);
+              far = omega (arith, area, area-far (b .width) (b .height) wide high);
+            };
+      }
+
+  abbrev boxRow : ℕ → List ℕ → List ℕ
+  boxRow = rowAt (b .paint) (rightToLeft (b .direction)) up (b .width) other (place (b .to) top) (place (b .from) top) (z - a)
+
+  one-row : (k : ℕ) → k < bottom - top → (t : List ℕ) → rowVisits (top + k) t ≡ boxRow k t
+  one-row k h t =
+      by-cases (leb z a)
+      (λ u.
+      let e = leb-true z a u in
+      sym (none-in-columns b other (top + k) c m own (row-fits k h) a z begins stops t e)
+      ∙ sym
+      (row-none (b .paint) (rightToLeft (b .direction)) other (away up (place (b .to) top) (b .width * k)) (away up (place (b .from) top) (b .width * k)) (z - a) t
+      (omega arith)))
+      (λ u.
+      let e = leb-false z a u in
+      sym
+      (whole-row b other (top + k) c m own (row-fits k h) a z begins stops e (row-in k h) (away up (place (b .to) top) (b .width * k))
+      (away up (place (b .from) top) (b .width * k)) (target-on k h) (λ s. source-on s k h) t))
+
+  row-idle : (k : ℕ) → k < rows → (t : List ℕ) → (k < top - row) ⊎ (bottom - row ≤ k) → rowVisits (row + k) t ≡ t
+  row-idle k q t out =
+      let f = fits (row + k) (omega arith) (omega (arith, q)) in
+      sym
+      (none-in-row b other (row + k) c m own f a z begins stops t
+      (λ s.
+      let in-rows = row-by b (row + k) (f .row-small) s in
+      ⊎-elim (λ h. before-from row (seenRows b .from) top k starts h (in-rows .0))
+      (λ h. after-past row rows (seenRows b .past) bottom k ends h q (in-rows .1)) out))
+
+  pub box-visits : (l : List ℕ) → boxOf (b .paint) (b .width) (b .to) (b .from) (b .direction) across down other l
+      ≡ inTurn (λ k. rowVisits (row + k)) rows l
+  unfolding boxOf
+  box-visits l =
+      let count : min rows (bottom - row) - (top - row) ≡ bottom - top = counted row rows top bottom (from-least row (seenRows b .from) top starts .0) (past-most (row + rows) (seenRows b .past) bottom ends .0) in
+      sym
+      (turn-part (λ k. rowVisits (row + k)) (top - row) (bottom - row) rows l row-idle
+      ∙ ap (λ n. inTurn (λ k. rowVisits (row + (top - row + k))) n l) count
+      ∙ turn-agree (λ k. rowVisits (row + (top - row + k))) boxRow (bottom - top) l
+      (λ k h t. let e : row + (top - row + k) ≡ top + k = omega (arith, starts) in ap (λ r. rowVisits r t) e ∙ one-row k h t))
+
+-- m visits of one row
+module _ (b : Blit) (other : List ℕ) (row c m own : ℕ) (f : RowFits b row c m (length other) own) (across down : Span)
+    (columns : across ≡ partOf (seenColumns b) c m) (lines : down ≡ partOf (seenRows b) row 1) where
+  only-row : (r : ℕ) → row ≤ r → r < row + 1 → RowFits b r c m (length other) own
+  only-row r p q = let e : row ≡ r = omega arith in subst (λ r. RowFits b r c m (length other) own) e f
+
+  pub row-box-fits : b .width < 4294967296 → b .height < 4294967296
+      → BoxFits (b .paint) (b .width) (b .to) (b .from) (b .direction) across down (length other) own
+  row-box-fits wide high =
+      box-fits b other row 1 c m own only-row across down columns lines wide high
+      (omega (arith, past-most (row + 1) (seenRows b .past) (down .past) (ap (λ s. s .past) lines) .0, f .row-small))
+      (z-small b other row c m own f (across .from) (across .past) (ap (λ s. s .from) columns) (ap (λ s. s .past) columns))
+      (f .other-area ∙ sym (f .own-area)) (f .own-area)
+
+  pub row-box-visits : (l k : List ℕ) → k ≡ boxOf (b .paint) (b .width) (b .to) (b .from) (b .direction) across down other l
+      → k ≡ inTurn (λ i. visited b other (widthOf (b .size) * row + c + i)) m l
+  row-box-visits l k e =
+      let visits : ℕ → List ℕ → List ℕ = λ r. inTurn (λ i. visited b other (widthOf (b .size) * r + c + i)) m in
+      let same : row + 0 ≡ row = omega arith in
+      e ∙ box-visits b other row 1 c m own only-row across down columns lines l
+      ∙ sym (turn-more (λ k. visits (row + k)) l 0 l (visits (row + 0) l) (turn-none (λ k. visits (row + k)) l) refl) ∙ ap (λ r. visits r l) same
+
+-- whole rows from the first on
+module _ (b : Blit) (other : List ℕ) (rows own : ℕ) (some : 0 < widthOf (b .size)) (small : b .size < 4294967296)
+    (f : Fitting b 0 (widthOf (b .size) * rows) (length other) own) (across down : Span)
+    (columns : across ≡ partOf (seenColumns b) 0 (widthOf (b .size))) (lines : down ≡ partOf (seenRows b) 0 rows) where
+  abbrev w : ℕ
+  w = widthOf (b .size)
+
+  row-under : (r : ℕ) → r < rows → r < 65536
+  row-under r h =
+      let most : w * suc r ≤ w * rows = mul-le-mul-left {m = suc r} {n = rows} w (omega (arith, h)) in
+      let here : w * r + w ≤ w * rows = omega (arith, most, mul-suc w r) in
+      omega (arith, row-below w (heightOf (b .size)) (w * r) r 0 (omega (arith, here, some, f .visits)) (omega arith))
+
+  each-row : (r : ℕ) → 0 ≤ r → r < 0 + rows → RowFits b r 0 w (length other) own
+  each-row r p q =
+      record {
+        size-small = small;
+        row-small = row-under r (omega arith);
+        columns = omega arith;
+        own-area = f .own-area;
+        other-area = f .other-area;
+        inside = f .inside;
+      }
+
+  rows-most : rows ≤ 65536
+  rows-most =
+      by-cases (leb rows 0) (λ t. omega (arith, leb-true rows 0 t))
+      (λ t. let h = leb-false rows 0 t in omega (arith, row-under (rows - 1) (omega arith)))
+
+  pub whole-box-fits : b .width < 4294967296 → b .height < 4294967296
+      → BoxFits (b .paint) (b .width) (b .to) (b .from) (b .direction) across down (length other) own
+  whole-box-fits wide high =
+      box-fits b other 0 rows 0 w own each-row across down columns lines wide high
+      (omega (arith, past-most (0 + rows) (seenRows b .past) (down .past) (ap (λ s. s .past) lines) .0, rows-most))
+      (omega (arith, past-most (0 + w) (seenColumns b .past) (across .past) (ap (λ s. s .past) columns) .0, small))
+      (f .other-area ∙ sym (f .own-area)) (f .own-area)
+
+  pub whole-box-visits : (l k : List ℕ) → k ≡ boxOf (b .paint) (b .width) (b .to) (b .from) (b .direction) across down other l
+      → k ≡ inTurn (visited b other) (w * rows) l
+  whole-box-visits l k e =
+      e ∙ box-visits b other 0 rows 0 w own each-row across down columns lines l
+      ∙ turn-agree (λ r. inTurn (λ i. visited b other (w * (0 + r) + 0 + i)) w) (λ r. inTurn (λ i. visited b other (w * r + i)) w) rows l
+      (λ r h t.
+      let same : 0 + r ≡ r = omega arith in
+      turn-agree (λ i. visited b other (w * (0 + r) + 0 + i)) (λ i. visited b other (w * r + i)) w t
+      (λ i p u. ap (λ r. visited b other (w * r + 0 + i) u) same ∙ ap (λ j. visited b other (j + i) u) (let e : w * r + 0 ≡ w * r = omega arith in e)))
+      ∙ turn-rows (visited b other) w rows l
