@@ -29,16 +29,22 @@ pub fn legal_pctrl(word: u32) -> bool
 pub fn legal_data(register: u32, word: u32) -> bool
     ensures { λ r. ⌜ r ≡ dataLegal register word ⌝ }
 {
-    let cmd = legal_cmd(word);
-    let pctrl = legal_pctrl(word);
-    (register == 0) & cmd
-        | (1 <= register) & (register <= 4) & (word < 256)
-        | (register == 5)
-        | (register == 6) & pctrl
-        | (7 <= register) & (register <= 9)
-        | (register == 10) & (word / 65536 <= 2048) & (word % 65536 <= 2048)
-        | (register == 11) & (word <= 3)
-        | (register == 12)
+    if register == 0 {
+        return legal_cmd(word);
+    }
+    if register <= 4 {
+        return word < 256;
+    }
+    if register == 6 {
+        return legal_pctrl(word);
+    }
+    if register == 10 {
+        return (word / 65536 <= 2048) & (word % 65536 <= 2048);
+    }
+    if register == 11 {
+        return word <= 3;
+    }
+    register <= 12
 }
 
 impl Entry {

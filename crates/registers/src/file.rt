@@ -1,6 +1,5 @@
 // The register file.
 ghost use mathlib.Core.Path.{_≡_};
-ghost use mathlib.Core.Bool.{cond};
 ghost use Rattle.registers.specs.Registers.{freshRegisters, writtenOf, registersLegal};
 use entries::legal_data;
 
@@ -19,12 +18,6 @@ pub struct Registers {
     pub xy2: u32,
     pub xy3: u32,
     pub xy1: u32,
-}
-
-fn choose(first: bool, a: u32, b: u32) -> u32
-    ensures { λ r. ⌜ r ≡ cond first a b ⌝ }
-{
-    if first { a } else { b }
 }
 
 impl Registers {
@@ -52,21 +45,60 @@ impl Registers {
     pub fn written(self, register: u32, word: u32) -> Registers
         ensures { λ r. ⌜ r ≡ writtenOf self register word ⌝ }
     {
-        Registers {
-            cmd: choose(register == 0, word, self.cmd),
-            fore: choose(register == 1, word, self.fore),
-            back: choose(register == 2, word, self.back),
-            mask: choose(register == 3, word, self.mask),
-            key: choose(register == 4, word, self.key),
-            lpat: choose(register == 5, word, self.lpat),
-            pctrl: choose(register == 6, word, self.pctrl),
-            clptl: choose(register == 7, word, self.clptl),
-            clpbr: choose(register == 8, word, self.clpbr),
-            xy0: choose(register == 9, word, self.xy0),
-            xy2: choose(register == 10, word, self.xy2),
-            xy3: choose(register == 11, word, self.xy3),
-            xy1: choose(register == 12, word, self.xy1),
+        let mut g = self;
+        if register == 0 {
+            g.cmd = word;
+            return g;
         }
+        if register == 1 {
+            g.fore = word;
+            return g;
+        }
+        if register == 2 {
+            g.back = word;
+            return g;
+        }
+        if register == 3 {
+            g.mask = word;
+            return g;
+        }
+        if register == 4 {
+            g.key = word;
+            return g;
+        }
+        if register == 5 {
+            g.lpat = word;
+            return g;
+        }
+        if register == 6 {
+            g.pctrl = word;
+            return g;
+        }
+        if register == 7 {
+            g.clptl = word;
+            return g;
+        }
+        if register == 8 {
+            g.clpbr = word;
+            return g;
+        }
+        if register == 9 {
+            g.xy0 = word;
+            return g;
+        }
+        if register == 10 {
+            g.xy2 = word;
+            return g;
+        }
+        if register == 11 {
+            g.xy3 = word;
+            return g;
+        }
+        if register == 12 {
+            g.xy1 = word;
+            return g;
+        }
+        g
     }
 
     // Whether every register holds a legal word.
