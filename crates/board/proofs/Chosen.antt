@@ -9,10 +9,11 @@ use Rattle.entries.specs.Legality.{entryLegal}
 use Rattle.entries.specs.declared.decoding.Entry.{Entry}
 use Rattle.entries.specs.declared.decoding.Decoded.{Decoded}
 use Rattle.entries.specs.declared.decoding.Decoded.the-variants.{Whole, Nothing}
-use Rattle.board.specs.Steps.{judged, nextOf}
+use Rattle.leaps.specs.Stretches.{judged}
+use Rattle.board.specs.Steps.{nextOf}
 use Rattle.board.specs.declared.record.Board.{Board}
-use Rattle.board.specs.declared.steps.Next.{Next}
-use Rattle.board.specs.declared.steps.Next.the-variants.{Idle, Visit, Take, Broken}
+use Rattle.leaps.specs.declared.stretches.Next.{Next}
+use Rattle.leaps.specs.declared.stretches.Next.the-variants.{Idle, Visit, Take, Broken}
 
 -- an entry that is taken
 pub record Taking (underWay taken : Bool) (d : Decoded) (e : Entry) : Type 0 where
@@ -26,16 +27,16 @@ abbrev pub Chosen : Bool → Bool → Decoded → Next → Type 0
 Chosen u t d Idle = (u ≡ false) × (t ≡ false)
 Chosen u t d Visit = u ≡ true
 Chosen u t d (Take e) = Taking u t d e
-Chosen u t d Broken = Unit {0}
+Chosen u t d Broken = (u ≡ false) × (t ≡ true)
 
 judged-at : (e : Entry) (t : Bool) → entryLegal e ≡ t → Chosen false true (Whole e) (cond t (Take e) Broken)
 judged-at e true h = record { resting = refl; active = refl; read = refl; legal = h }
-judged-at e false h = tt
+judged-at e false h = (refl, refl)
 
 chosen-at : (u t : Bool) (d : Decoded) → Chosen u t d (cond u Visit (cond t (judged d) Idle))
 chosen-at true t d = refl
 chosen-at false true (Whole e) = judged-at e (entryLegal e) refl
-chosen-at false true Nothing = tt
+chosen-at false true Nothing = (refl, refl)
 chosen-at false false d = (refl, refl)
 
 pub chosen : (l : List ℕ) (b : Board) (x : Next) → nextOf l b ≡ x

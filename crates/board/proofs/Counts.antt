@@ -26,8 +26,8 @@ use Rattle.board.specs.Runs.{Outcome, byNext, runOf}
 use Rattle.board.specs.Left.{entriesFrom, restOf, toCome, pixelsOf, lastAfter, costOf, pixelsLeft, lastOnceDone, stepsLeft, LesserOfBudgetAndLeft}
 use Rattle.slots.specs.declared.record.Cursor.{Cursor}
 use Rattle.board.specs.declared.record.Board.{Board}
-use Rattle.board.specs.declared.steps.Next.{Next}
-use Rattle.board.specs.declared.steps.Next.the-variants.{Idle, Visit, Take, Broken}
+use Rattle.leaps.specs.declared.stretches.Next.{Next}
+use Rattle.leaps.specs.declared.stretches.Next.the-variants.{Idle, Visit, Take, Broken}
 use Rattle.commands.proofs.Triggers.{triggered-count}
 use Rattle.board.proofs.Chosen.{chosen}
 use Rattle.board.proofs.Keeps.{stays-well-formed}

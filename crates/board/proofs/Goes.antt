@@ -1,28 +1,31 @@
 -- Runs: how they begin, go on and compose.
 -- Assumes nothing.
 use mathlib.Core.Path.{_≡_, refl, ap, sym, subst, _∙_}
-use mathlib.Core.Bool.{true}
+use mathlib.Core.Logic.{_⊎_, ⊎-elim}
+use mathlib.Core.Bool.{Bool, true, false, _||_, false≢true}
 use mathlib.Core.List.{List}
 use Prim.Native.Nat.{ℕ, zero, suc, _+_, _-_, _≤_, _<_}
 use native.Mathlib.Numerals.{add-one}
 use native.Mathlib.Omega.{arith}
-use borrow.Author.Tests.{lt-ltb}
+use borrow.Author.Tests.{eqb-true, lt-ltb, le-ltb}
+use lib.Dec.{eqb, ltb}
 use lib.ListN.{length}
-use Rattle.geometry.specs.declared.Place.{Place}
-use Rattle.entries.specs.declared.decoding.Entry.{Entry}
-use Rattle.commands.specs.Visits.{countOf, targetOf}
-use Rattle.commands.specs.Steps.{Scene, advancedOf, visitOf, visitsOf}
-use Rattle.commands.specs.declared.Engine.{Engine}
-use Rattle.commands.proofs.Bounds.{count-same}
+use Rattle.lemmas.proofs.Booleans.{by-cases, or-first, or-none-left, or-none-right}
+use Rattle.commands.specs.Steps.{Scene, takenOf}
+use Rattle.leaps.specs.Stretches.{nextIn, Stretched, stopped, longer, byStep, stretchOf}
+use Rattle.leaps.proofs.Stretching.{visit-one, take-one, stops, Within, within, none-done}
+use Rattle.slots.specs.Slots.{endOf}
 use Rattle.board.specs.Record.{wellFormed}
-use Rattle.board.specs.Steps.{Machine, machine, withEngine, nextOf, settledOf, takenBy, sceneOf, visitedOf, actOf, stepOf}
+use Rattle.board.specs.Steps.{Machine, machine, withEngine, withNext, nextOf, settledOf, takenBy, sceneOf, visitedScene, visitedOf, actOf, stepOf}
 use Rattle.slots.specs.Answers.{told}
 use Rattle.board.specs.Runs.{Outcome, ended, added, byNext, runOf, Leaped, LeapOk}
 use Rattle.board.specs.Left.{RunsCompose}
 use Rattle.board.specs.declared.record.Board.{Board}
 use Rattle.board.specs.declared.runs.Leap.{Leap}
-use Rattle.board.specs.declared.steps.Next.{Next}
-use Rattle.board.specs.declared.steps.Next.the-variants.{Idle, Visit, Take, Broken}
+use Rattle.leaps.specs.declared.stretches.Next.{Next}
+use Rattle.leaps.specs.declared.stretches.Next.the-variants.{Idle, Visit, Take, Broken}
+use Rattle.board.proofs.Forms.{Good, good-of, zero-of, span-of, entries-most, next-below, next-within}
+use Rattle.board.proofs.Chosen.{chosen}
 use Rattle.board.proofs.Keeps.{stays-well-formed}
 
 -- ---- one step of a run
@@ -53,116 +56,202 @@ added-added j k o i = record { heard = told (o .heard .number) (o .heard .place)
     same : o .heard .steps + k + j ≡ o .heard .steps + (k + j)
     same = omega arith
 
--- ---- one step is a leap
+-- ---- steps of one list are a leap
 
-one-step : (l : List ℕ) (m : Machine) (x : Next) (most : ℕ) → nextOf l (m .board) ≡ x → ((o : Outcome) → byNext x m o ≡ added 1 o) → 1 ≤ most
-    → wellFormed (m .board) ≡ true → Leaped l m most 1 (actOf x m)
-one-step l m x most e goes h w =
-    record {
-      some = omega arith;
-      few = h;
-      well = subst (λ n. wellFormed (n .board) ≡ true) (step-by l m x e) (stays-well-formed l m w);
-      run = λ r.
-          ap (λ k. runOf k l m) (add-one r) ∙ run-by l m x r e ∙ goes (runOf r l (stepOf l m))
-          ∙ ap (λ n. added 1 (runOf r l n)) (step-by l m x e);
-    }
+-- a list with pixels or entries left
+abbrev live : Board → Bool
+live b = b .engine .«under_way» || ltb (b .active .next) (endOf (b .active .slot))
 
-pub take-leaps : (l : List ℕ) (m : Machine) (e : Entry) (most : ℕ) → nextOf l (m .board) ≡ Take e → 1 ≤ most → wellFormed (m .board) ≡ true
-    → Leaped l m most 1 (machine (takenBy (m .board) e) (m .display) (m .virt))
-take-leaps l m e most h o w = one-step l m (Take e) most h (λ _. refl) o w
-
--- ---- many pixels are a leap
-
--- an engine that is k visits on in its command
-record On (e f : Engine) (k : ℕ) : Type 0 where
-  under : f .«under_way» ≡ true
-  at : f .visited ≡ e .visited + k
-  registers-same : f .registers ≡ e .registers
-  last-same : f .last ≡ e .last
-
-advance-on : (f : Engine) (q : Place) → f .visited + 1 < countOf f → On f (advancedOf f q) 1
-unfolding advancedOf
-advance-on f q h = rw (lt-ltb (f .visited + 1) (countOf f) h) (record { under = refl; at = refl; registers-same = refl; last-same = refl })
-
-visits-on : (width height : ℕ) (s : Scene) (k : ℕ) → s .engine .«under_way» ≡ true → s .engine .visited + k < countOf (s .engine)
-    → On (s .engine) (visitsOf k width height s .engine) k
-unfolding visitsOf visitOf
-visits-on width height s zero u h = record { under = u; at = omega arith; registers-same = refl; last-same = refl }
-visits-on width height s (suc k) u h =
-    let f = visitsOf k width height s .engine in
-    let on = visits-on width height s k u (omega arith) in
-    let same : countOf f ≡ countOf (s .engine) = count-same f (s .engine) (on .registers-same) (on .last-same) in
-    let next = advance-on f (targetOf f width height (f .visited)) (omega (arith, on .at, same)) in
-    record {
-      under = next .under;
-      at = omega (arith, next .at, on .at);
-      registers-same = next .registers-same ∙ on .registers-same;
-      last-same = next .last-same ∙ on .last-same;
-    }
-
--- the board after k visits within its command
-abbrev pub visitsIn : ℕ → Machine → Machine
-visitsIn k m =
-    let s = visitsOf k (m .board .sizes .width) (m .board .sizes .height) (sceneOf m) in
-    machine (withEngine (m .board) (s .engine)) (s .display) (s .virt)
-
-settle-on : (b : Board) → b .engine .«under_way» ≡ true → settledOf b ≡ b
+settle-live : (b : Board) → live b ≡ true → settledOf b ≡ b
 unfolding settledOf
-settle-on b e = rw e
+settle-live b e = rw e
 
-module _ (m : Machine) (w : wellFormed (m .board) ≡ true) (u : m .board .engine .«under_way» ≡ true) where
-  on-way : (k : ℕ) → m .board .engine .visited + k < countOf (m .board .engine) → visitsIn k m .board .engine .«under_way» ≡ true
-  on-way k h = visits-on (m .board .sizes .width) (m .board .sizes .height) (sceneOf m) k u h .under
+-- the record after steps of its active list, with its buffers
+abbrev pub movedBy : Machine → Stretched → Machine
+movedBy m r = machine (settledOf (withEngine (withNext (m .board) (r .next)) (r .after .engine))) (r .after .display) (r .after .virt)
 
-  -- one visit more, where the command goes on
-  visits-step : (l : List ℕ) (k : ℕ) → m .board .engine .visited + suc k < countOf (m .board .engine) → stepOf l (visitsIn k m) ≡ visitsIn (suc k) m
-  unfolding visitedOf visitsOf
-  visits-step l k h =
-      step-by l (visitsIn k m) Visit (visits-next l (visitsIn k m .board) (on-way k (omega arith)))
-      ∙ ap (λ b. machine b (visitsIn (suc k) m .display) (visitsIn (suc k) m .virt)) (settle-on (visitsIn (suc k) m .board) (on-way (suc k) h))
+-- a stretch leads to where a run of so many steps does
+record Leads (l : List ℕ) (m : Machine) (r : Stretched) : Type 0 where
+  well : wellFormed (movedBy m r .board) ≡ true
+  run : (k : ℕ) → runOf (k + r .steps) l m ≡ added (r .steps) (runOf k l (movedBy m r))
 
-  visits-well : (l : List ℕ) (k : ℕ) → m .board .engine .visited + k < countOf (m .board .engine) → wellFormed (visitsIn k m .board) ≡ true
-  unfolding visitsOf
-  visits-well l zero h = w
-  visits-well l (suc k) h =
-      subst (λ n. wellFormed (n .board) ≡ true) (visits-step l k h) (stays-well-formed l (visitsIn k m) (visits-well l k (omega arith)))
+leads-none : (l : List ℕ) (m : Machine) → wellFormed (m .board) ≡ true → live (m .board) ≡ true
+    → Leads l m (stopped (m .board .active .next) (sceneOf m))
+leads-none l m w e =
+    let here = settle-live (m .board) e in
+    record {
+      well = subst (λ b. wellFormed b ≡ true) (sym here) w;
+      run = λ k.
+          ap (λ k. runOf k l m) (none k) ∙ added-none (runOf k l m) ∙ ap (λ b. added 0 (runOf k l (machine b (m .display) (m .virt)))) (sym here);
+    }
+  where
+    none : (k : ℕ) → k + 0 ≡ k
+    none k = omega arith
 
-  visits-run : (l : List ℕ) (k r : ℕ) → m .board .engine .visited + k < countOf (m .board .engine)
-      → runOf (r + k) l m ≡ added k (runOf r l (visitsIn k m))
-  unfolding visitsOf
-  visits-run l zero r h =
-      let e : r + 0 ≡ r = omega arith in
-      ap (λ k. runOf k l m) e ∙ added-none (runOf r l m)
-  visits-run l (suc k) r h =
-      let e : r + suc k ≡ suc r + k = omega arith in
-      let o = runOf r l (visitsIn (suc k) m) in
-      ap (λ k. runOf k l m) e ∙ visits-run l k (suc r) (omega arith)
-      ∙ ap (added k) (run-by l (visitsIn k m) Visit r (visits-next l (visitsIn k m .board) (on-way k (omega arith))) ∙ ap (λ n. added 1 (runOf r l n)) (visits-step l k h))
-      ∙ added-added k 1 o ∙ ap (λ j. added j o) (add-one-left k)
-    where
-      add-one-left : (k : ℕ) → 1 + k ≡ suc k
-      add-one-left k = omega arith
+-- one step to the record o before it is settled, and a stretch from there
+leads-more : (l : List ℕ) (m o : Machine) (x : Next) (r : Stretched) → nextOf l (m .board) ≡ x → ((o : Outcome) → byNext x m o ≡ added 1 o)
+    → wellFormed (m .board) ≡ true → actOf x m ≡ machine (settledOf (o .board)) (o .display) (o .virt) → movedBy m r ≡ movedBy o r
+    → (wellFormed (o .board) ≡ true → live (o .board) ≡ true → Leads l o r)
+    → (live (o .board) ≡ false → r ≡ stopped (o .board .active .next) (sceneOf o)) → Leads l m (longer 1 r)
+leads-more l m o x r e goes w acts same more over =
+    by-cases (live (o .board))
+    (λ t.
+    let here : stepOf l m ≡ o = stepped ∙ ap (λ b. machine b (o .display) (o .virt)) (settle-live (o .board) t) in
+    let on = more (subst (λ n. wellFormed (n .board) ≡ true) here (stays-well-formed l m w)) t in
+    record {
+      well = subst (λ n. wellFormed (n .board) ≡ true) (sym same) (on .well);
+      run = λ k.
+          ap (λ j. runOf j l m) (regroup k) ∙ one (k + r .steps) ∙ ap (λ n. added 1 (runOf (k + r .steps) l n)) here
+          ∙ ap (added 1) (on .run k) ∙ added-added 1 (r .steps) (runOf k l (movedBy o r))
+          ∙ ap (λ n. added (r .steps + 1) (runOf k l n)) (sym same);
+    })
+    (λ t.
+    let there : movedBy m r ≡ stepOf l m = same ∙ ap (movedBy o) (over t) ∙ sym stepped in
+    let none : r .steps ≡ 0 = ap (λ (r : Stretched). r .steps) (over t) in
+    let single : r .steps + 1 ≡ 1 = omega arith in
+    record {
+      well = subst (λ n. wellFormed (n .board) ≡ true) (sym there) (stays-well-formed l m w);
+      run = λ k.
+          ap (λ j. runOf (k + j) l m) single ∙ ap (λ j. runOf j l m) (add-one k) ∙ one k
+          ∙ ap (λ n. added 1 (runOf k l n)) (sym there) ∙ ap (λ j. added j (runOf k l (movedBy m r))) (sym single);
+    })
+  where
+    stepped : stepOf l m ≡ machine (settledOf (o .board)) (o .display) (o .virt)
+    stepped = step-by l m x e ∙ acts
 
-  -- k visits and one more
-  pub burst-leaps : (l : List ℕ) (k most : ℕ) → k < most → m .board .engine .visited + k < countOf (m .board .engine)
-      → Leaped l m most (k + 1) (visitedOf (visitsIn k m))
-  burst-leaps l k most h o =
-      let v = visitsIn k m in
-      let one = one-step l v Visit 1 (visits-next l (v .board) (on-way k o)) (λ _. refl) (omega arith) (visits-well l k o) in
-      record {
-        some = omega arith;
-        few = omega arith;
-        well = one .well;
-        run = λ r.
-            ap (λ j. runOf j l m) (regroup r) ∙ visits-run l k (r + 1) o ∙ ap (added k) (one .run r) ∙ added-added k 1 (runOf r l (visitedOf v))
-            ∙ ap (λ j. added j (runOf r l (visitedOf v))) (swap k);
-      }
-    where
-      regroup : (r : ℕ) → r + (k + 1) ≡ r + 1 + k
-      regroup r = omega arith
+    one : (k : ℕ) → runOf (suc k) l m ≡ added 1 (runOf k l (stepOf l m))
+    one k = run-by l m x k e ∙ goes (runOf k l (stepOf l m))
 
-      swap : (k : ℕ) → 1 + k ≡ k + 1
-      swap k = omega arith
+    regroup : (k : ℕ) → k + (r .steps + 1) ≡ suc (k + r .steps)
+    regroup k = omega arith
+
+-- the step of a list is that of the board
+same-next : (l : List ℕ) (b : Board) → Good b → nextIn l (endOf (b .active .slot)) (b .engine) (b .active .next) ≡ nextOf l b
+unfolding nextIn nextOf
+same-next l b g =
+    let s = b .active .slot in
+    by-cases (b .engine .«under_way») (λ u. rw u)
+    (λ u.
+    rw u
+    (by-cases (s .taken) (λ t. rw (t, lt-ltb (b .active .next) (endOf s) (next-below b g t u .before)))
+    (λ t. let z = zero-of s (g .active-zeros) t in rw (t, le-ltb (b .active .next) (endOf s) (omega arith)))))
+
+at-end : (l : List ℕ) (b : Board) → live b ≡ false → nextIn l (endOf (b .active .slot)) (b .engine) (b .active .next) ≡ Idle
+unfolding nextIn
+at-end l b h =
+    let u = b .engine .«under_way» in
+    let more = ltb (b .active .next) (endOf (b .active .slot)) in
+    rw (or-none-left u more h, or-none-right u more h)
+
+-- a stretch of the active list
+abbrev pub stretchIn : ℕ → List ℕ → Machine → Stretched
+stretchIn most l m =
+    stretchOf most l (endOf (m .board .active .slot)) (m .board .sizes .width) (m .board .sizes .height) (m .board .active .next) (sceneOf m)
+
+-- at its end a list has no stretch
+ended-stretch : (most : ℕ) (l : List ℕ) (m : Machine) → live (m .board) ≡ false → stretchIn most l m ≡ stopped (m .board .active .next) (sceneOf m)
+ended-stretch most l m t =
+    let b = m .board in
+    stops l (endOf (b .active .slot)) (b .sizes .width) (b .sizes .height) most (b .active .next) (sceneOf m) Idle (at-end l b t) (λ _ _. refl)
+
+stretch-leads : (most : ℕ) (l : List ℕ) (m : Machine) → wellFormed (m .board) ≡ true → live (m .board) ≡ true → Leads l m (stretchIn most l m)
+unfolding stretchOf visitedOf takenBy
+stretch-leads zero l m w e = leads-none l m w e
+stretch-leads (suc most) l m w e = go (stretch-leads most l) (nextOf l (m .board)) refl
+  where
+    b : Board
+    b = m .board
+
+    next-is : (x : Next) → nextOf l b ≡ x → nextIn l (endOf (b .active .slot)) (b .engine) (b .active .next) ≡ x
+    next-is x h = same-next l b (good-of b w) ∙ h
+
+    stays : (x : Next) → nextOf l b ≡ x → ((o : Stretched) (f : ℕ → Scene → Stretched) → byStep x (b .active .next) (sceneOf m) o f ≡ stopped (b .active .next) (sceneOf m))
+        → Leads l m (stretchIn (suc most) l m)
+    stays x h none =
+        subst (Leads l m)
+        (sym (stops l (endOf (b .active .slot)) (b .sizes .width) (b .sizes .height) (suc most) (b .active .next) (sceneOf m) x (next-is x h) none))
+        (leads-none l m w e)
+
+    go : ((o : Machine) → wellFormed (o .board) ≡ true → live (o .board) ≡ true → Leads l o (stretchIn most l o)) → (x : Next) → nextOf l b ≡ x
+        → Leads l m (stretchIn (suc most) l m)
+    go rest Idle h = stays Idle h (λ _ _. refl)
+    go rest Visit h =
+        let s = visitedScene m in
+        let o = machine (withEngine b (s .engine)) (s .display) (s .virt) in
+        subst (Leads l m)
+        (sym (visit-one l (endOf (b .active .slot)) (b .sizes .width) (b .sizes .height) most (b .active .next) (sceneOf m) (chosen l b Visit h)))
+        (leads-more l m o Visit (stretchIn most l o) h (λ _. refl) w refl refl (rest o) (ended-stretch most l o))
+    go rest (Take x) h =
+        let o = machine (withEngine (withNext b (b .active .next + 1)) (takenOf (b .engine) x)) (m .display) (m .virt) in
+        subst (Leads l m)
+        (sym (take-one l (endOf (b .active .slot)) (b .sizes .width) (b .sizes .height) most (b .active .next) (sceneOf m) x (next-is (Take x) h)))
+        (leads-more l m o (Take x) (stretchIn most l o) h (λ _. refl) w refl refl (rest o) (ended-stretch most l o))
+    go rest Broken h = stays Broken h (λ _ _. refl)
+
+-- the next entry is within the active list, or its end
+next-in : (b : Board) → Good b → b .active .next ≤ endOf (b .active .slot)
+next-in b g =
+    by-cases (b .engine .«under_way») (λ u. next-within b g u .within)
+    (λ u.
+    by-cases (b .active .slot .taken) (λ t. omega (arith, next-below b g t u .before))
+    (λ t. omega (arith, eqb-true (b .active .next) 0 (or-first (b .active .slot .taken) (eqb (b .active .next) 0) (g .next-zero) t))))
+
+end-most : (b : Board) → Good b → endOf (b .active .slot) ≤ 4096
+end-most b g =
+    let s = b .active .slot in
+    by-cases (s .taken) (λ t. omega (arith, span-of s (b .sizes .entries) (g .active-span) t .inside, entries-most b g))
+    (λ t. let z = zero-of s (g .active-zeros) t in omega arith)
+
+-- what the steps of the active list answer
+module _ (most : ℕ) (l : List ℕ) (m : Machine) (w : wellFormed (m .board) ≡ true) (r : Stretched) (is : r ≡ stretchIn most l m) where
+  g : Good (m .board)
+  g = good-of (m .board) w
+
+  kept : Within l (endOf (m .board .active .slot)) (m .board .sizes .width) (m .board .sizes .height) most r
+  kept =
+      subst (λ r. Within l (endOf (m .board .active .slot)) (m .board .sizes .width) (m .board .sizes .height) most r) (sym is)
+      (within l (endOf (m .board .active .slot)) (m .board .sizes .width) (m .board .sizes .height) most (m .board .active .next) (sceneOf m) (next-in (m .board) g))
+
+  pub leap-next : r .next ≤ 4096
+  leap-next = omega (arith, kept .inside, end-most (m .board) g)
+
+  -- some steps
+  pub leap-far : 0 < r .steps → Leaped l m most (r .steps) (movedBy m r)
+  leap-far some =
+      by-cases (live (m .board))
+      (λ t.
+      let on = subst (Leads l m) (sym is) (stretch-leads most l m w t) in
+      record { some = omega (arith, some); few = kept .few; well = on .well; run = on .run })
+      (λ t.
+      let none : r .steps ≡ 0 = ap (λ (r : Stretched). r .steps) (is ∙ ended-stretch most l m t) in
+      absurd (omega (arith, some)))
+
+  -- none: the board is idle, or the next entry is illegal
+  module _ (asked : 1 ≤ most) (none : r .steps ≡ 0) where
+    b : Board
+    b = m .board
+
+    found : (stretchIn most l m ≡ stopped (b .active .next) (sceneOf m))
+        × ((nextIn l (endOf (b .active .slot)) (b .engine) (b .active .next) ≡ Idle) ⊎ (nextIn l (endOf (b .active .slot)) (b .engine) (b .active .next) ≡ Broken))
+    unfolding b
+    found =
+        none-done l (endOf (b .active .slot)) (b .sizes .width) (b .sizes .height) most (b .active .next) (sceneOf m) (omega (arith, asked))
+        (ap (λ (r : Stretched). r .steps) (sym is) ∙ none)
+
+    pub leap-stood : r .after ≡ sceneOf m
+    unfolding b
+    leap-stood = ap (λ (r : Stretched). r .after) (is ∙ found .0)
+
+    pub leap-idle : m .board .active .slot .taken ≡ false → nextOf l (m .board) ≡ Idle
+    unfolding b
+    leap-idle t =
+        ⊎-elim (λ h. sym (same-next l b g) ∙ h)
+        (λ h. absurd (false≢true (sym t ∙ chosen l b Broken (sym (same-next l b g) ∙ h) .1))) (found .1)
+
+    pub leap-broken : m .board .active .slot .taken ≡ true → nextOf l (m .board) ≡ Broken
+    unfolding b
+    leap-broken t =
+        ⊎-elim (λ h. absurd (false≢true (sym (chosen l b Idle (sym (same-next l b g) ∙ h) .1) ∙ t))) (λ h. sym (same-next l b g) ∙ h) (found .1)
 
 -- ---- the loop of a run: k steps are done, and the rest of the run is that from here
 pub record Running (budget : ℕ) (l : List ℕ) (m₀ : Machine) (k : ℕ) (m : Machine) : Type 0 where

@@ -28,8 +28,8 @@ use Rattle.board.specs.Record.{wellFormed}
 use Rattle.board.specs.Steps.{Machine, withEngine, withNext, nextOf, settledOf, takenBy, sceneOf, visitedScene, visitedOf, actOf, stepOf}
 use Rattle.board.specs.Left.{StaysWellFormed, KeepsLengths}
 use Rattle.board.specs.declared.record.Board.{Board}
-use Rattle.board.specs.declared.steps.Next.{Next}
-use Rattle.board.specs.declared.steps.Next.the-variants.{Idle, Visit, Take, Broken}
+use Rattle.leaps.specs.declared.stretches.Next.{Next}
+use Rattle.leaps.specs.declared.stretches.Next.the-variants.{Idle, Visit, Take, Broken}
 use Rattle.board.proofs.Forms.{Good, good-of, well-of, span-of, zero-of, Visiting, fetching-ok, visiting-ok, untaken-ok, active-of, next-below, next-within}
 
 -- what an engine's part of a well formed record says

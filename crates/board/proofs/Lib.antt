@@ -3,5 +3,5 @@ pub mod Chosen
 pub mod Keeps
 pub mod Goes
 pub mod Counts
-pub mod Callees
+pub mod Refused
 pub mod Replies

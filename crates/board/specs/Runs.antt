@@ -7,8 +7,8 @@ use lib.ListN.{length}
 use Rattle.slots.specs.Slots.{lentOk}
 use Rattle.board.specs.Record.{wellFormed}
 use Rattle.board.specs.Steps.{Machine, machine, nextOf, stepOf}
-use Rattle.board.specs.declared.steps.Next.{Next}
-use Rattle.board.specs.declared.steps.Next.the-variants.{Idle, Visit, Take, Broken}
+use Rattle.leaps.specs.declared.stretches.Next.{Next}
+use Rattle.leaps.specs.declared.stretches.Next.the-variants.{Idle, Visit, Take, Broken}
 use Rattle.slots.specs.Answers.{Told, told, toldOf}
 use Rattle.board.specs.declared.answers.Answer.{Answer}
 use Rattle.board.specs.declared.runs.Leap.{Leap}

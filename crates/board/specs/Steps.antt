@@ -4,16 +4,14 @@ use mathlib.Core.List.{List}
 use Prim.Native.Nat.{ℕ, _+_}
 use lib.Dec.{ltb}
 use Rattle.entries.specs.Layout.{decodedOf}
-use Rattle.entries.specs.Legality.{entryLegal}
 use Rattle.entries.specs.declared.decoding.Entry.{Entry}
-use Rattle.entries.specs.declared.decoding.Decoded.{Decoded}
-use Rattle.entries.specs.declared.decoding.Decoded.the-variants.{Whole, Nothing}
 use Rattle.commands.specs.Steps.{Scene, scene, visitOf, takenOf}
 use Rattle.commands.specs.declared.Engine.{Engine}
+use Rattle.leaps.specs.Stretches.{judged}
 use Rattle.slots.specs.Slots.{endOf, emptySlot, cursorOn}
 use Rattle.board.specs.declared.record.Board.{Board}
-use Rattle.board.specs.declared.steps.Next.{Next}
-use Rattle.board.specs.declared.steps.Next.the-variants.{Idle, Visit, Take, Broken}
+use Rattle.leaps.specs.declared.stretches.Next.{Next}
+use Rattle.leaps.specs.declared.stretches.Next.the-variants.{Idle, Visit, Take, Broken}
 
 -- A board record with its two buffers.
 pub record Machine : Type 0 where
@@ -38,10 +36,6 @@ withNext b k =
     }
 
 -- What the next step is: a pixel of the command under way, else the next entry of the active list.
-abbrev pub judged : Decoded → Next
-judged (Whole e) = cond (entryLegal e) (Take e) Broken
-judged Nothing = Broken
-
 unfoldable pub nextOf : List ℕ → Board → Next
 nextOf l b =
     cond (b .engine .«under_way») Visit (cond (b .active .slot .taken) (judged (decodedOf l (b .active .next))) Idle)

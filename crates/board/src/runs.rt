@@ -1,14 +1,13 @@
 // A run of steps.
 ghost use mathlib.Core.Path.{_≡_};
 ghost use mathlib.Core.Bool.{true};
-ghost use mathlib.Core.List.{List};
-ghost use Prim.Native.Nat.{ℕ, _≤_, min};
+ghost use Prim.Native.Nat.{_≤_};
 ghost use Rattle.board.specs.Record.{wellFormed};
 ghost use Rattle.board.specs.Steps.{machine};
-ghost use Rattle.board.specs.Runs.{outcome, runOf, runCall, Leaped, LeapOk};
+ghost use Rattle.board.specs.Runs.{outcome, runOf, runCall, LeapOk};
 use crate::answers::Answer;
 use crate::record::Board;
-use crate::steps::Next;
+use leaps::run_list;
 use slots::Heard;
 
 // One or more steps done at once.
@@ -18,53 +17,33 @@ pub enum Leap {
     Broken,
 }
 
-pub struct Burst {
-    pub board: Board,
-    pub steps: u64,
-}
-
-fn least(a: u64, b: u64) -> u64
-    ensures { λ r. ⌜ r ≡ min a b ⌝ }
-{
-    if a <= b { a } else { b }
-}
-
 impl Board {
-    // The pixels of the command under way, as many as `most` allows.
-    fn burst(self, most: u64, display: &mut [u8], virt: &mut [u8]) -> Burst
-        requires { ⌜ (self .engine .«under_way» ≡ true) × (wellFormed self ≡ true) × (1 ≤ most) ⌝ }
-        ensures { λ r. ⌜ ((l : List ℕ) → Leaped l (machine self (now (display .entry)) (now (virt .entry))) most (r .steps) (machine (r .board) (now (display .exit)) (now (virt .exit)))) ⌝ }
-    {
-        let z = self.sizes;
-        let e = self.engine;
-        let left = e.count() as u64 - e.visited as u64;
-        let k = least(most - 1, left - 1);
-        let after = e.visit_many(k as usize, z.width, z.height, display, virt);
-        let mut b = self;
-        b.engine = after;
-        let n = b.visited(display, virt);
-        Burst {
-            board: n,
-            steps: k + 1,
-        }
-    }
-
-    // One step or more, at most `most`.
+    // One step or more of the active list, at most `most`.
     fn leap(self, list: &[u8], most: u64, display: &mut [u8], virt: &mut [u8]) -> Leap
         requires { ⌜ (wellFormed self ≡ true) × (1 ≤ most) ⌝ }
         ensures { λ r. ⌜ LeapOk (now (list .entry)) (machine self (now (display .entry)) (now (virt .entry))) most r (now (display .exit)) (now (virt .exit)) ⌝ }
     {
-        let next = self.next_step(list);
-        match next {
-            Next::Idle => Leap::Idle,
-            Next::Broken => Leap::Broken,
-            Next::Take(entry) => Leap::Far(self.taken(entry), 1),
-            Next::Visit => {
-                let r = self.burst(most, display, virt);
-                let b = r.board;
-                Leap::Far(b, r.steps)
-            }
+        let z = self.sizes;
+        let c = self.active;
+        let s = c.slot;
+        let e = self.engine;
+        let end = s.start as usize + s.count as usize;
+        let r = run_list(
+            e,
+            z.width,
+            z.height,
+            c.next as usize,
+            end,
+            most,
+            list,
+            display,
+            virt,
+        );
+        if 0 < r.steps {
+            let engine = r.engine;
+            return Leap::Far(self.moved(engine, r.next as u32), r.steps);
         }
+        if s.taken { Leap::Broken } else { Leap::Idle }
     }
 
     // As many steps as the budget allows.

@@ -3,7 +3,4 @@ pub mod Marks
 pub mod Bounds
 pub mod Triggers
 pub mod Visits
-pub mod Blits
-pub mod Leaping
-pub mod Strokes
 pub mod Examples

@@ -8,9 +8,15 @@ use borrow.Author.Tests.{ltb-true, ne-eqb}
 use lib.Dec.{eqb, ltb}
 use Rattle.lemmas.proofs.Booleans.{and-right}
 use Rattle.commands.specs.Visits.{commandIn, isBlit, isLine, countOf}
-use Rattle.commands.specs.Steps.{triggeredOf}
+use Rattle.registers.specs.declared.dashes.Pattern.{Pattern}
+use Rattle.commands.specs.Steps.{patternSet, triggeredOf}
 use Rattle.commands.specs.declared.Engine.{Engine}
 use Rattle.commands.proofs.Bounds.{count-same}
+
+-- another register than XY1 triggers nothing
+pub triggers-nothing : (number : ℕ) (f : Engine) → (number ≡ 12 → ⊥) → (q : Pattern) → q ≡ patternSet number f
+    → record { «under_way» = false; visited = 0; registers = f .registers; pattern = q; last = f .last } ≡ triggeredOf number f
+triggers-nothing number f h q e = rw (e, ne-eqb number 12 h)
 
 -- with pixels to visit the command has not finished
 unfinished : (n k : Bool) (c : ℕ) → (n && ltb 0 c) ≡ true → (n && k && eqb c 0) ≡ false

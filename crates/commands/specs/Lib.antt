@@ -1,5 +1,4 @@
 pub mod Visits
 pub mod Sources
 pub mod Steps
-pub mod Leaps
 pub mod Examples

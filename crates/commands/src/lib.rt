@@ -6,9 +6,6 @@ ghost use Rattle.raster.specs.Raster.{newByte};
 ghost use Rattle.commands.specs.Visits.{isLine, lineStart, countOf, visitAt, targetOf};
 ghost use Rattle.commands.specs.Sources.{copiedOf, dashOf, sourceOf};
 ghost use Rattle.commands.specs.Steps.{scene, freshEngine, inked, patternAfter, advancedOf, visitOf, patternSet, triggeredOf, takenOf};
-
-mod leaps;
-
 use entries::Command;
 use entries::Entry;
 use entries::command_of;
@@ -39,7 +36,7 @@ pub enum Source {
     Nothing,
 }
 
-pub(crate) fn is_line(c: Command) -> bool
+pub fn is_line(c: Command) -> bool
     ensures { λ r. ⌜ r ≡ isLine c ⌝ }
 {
     (c.opcode == 2) | (c.opcode == 5)
@@ -80,7 +77,7 @@ impl Engine {
     }
 
     // Where the line in CMD starts.
-    pub(crate) fn line_start(self) -> u32
+    pub fn line_start(self) -> u32
         ensures { λ r. ⌜ r ≡ lineStart self ⌝ }
     {
         let g = self.registers;
@@ -284,6 +281,15 @@ impl Engine {
     {
         let g = self.registers;
         let p = self.pattern_set(number);
+        if number != 12 {
+            return Engine {
+                under_way: false,
+                visited: 0,
+                registers: g,
+                pattern: p,
+                last: self.last,
+            };
+        }
         let c = command_of(g.cmd);
         let n = self.count();
         let line = is_line(c);

@@ -14,8 +14,8 @@ use Rattle.board.specs.Calls.{Reply, postedOf, postCall, Written, storeCall, wr
 use Rattle.board.specs.Steps.{Machine, machine, nextOf}
 use Rattle.board.specs.Runs.{Outcome, ended, byNext, runOf, runCall}
 use Rattle.board.specs.declared.record.Board.{Board}
-use Rattle.board.specs.declared.steps.Next.{Next}
-use Rattle.board.specs.declared.steps.Next.the-variants.{Idle, Visit, Take, Broken}
+use Rattle.leaps.specs.declared.stretches.Next.{Next}
+use Rattle.leaps.specs.declared.stretches.Next.the-variants.{Idle, Visit, Take, Broken}
 use Rattle.pramolyt.specs.Image.{wordsOf, boardOf, flagsOk}
 use Rattle.pramolyt.specs.Exports.{ofImage, Posted, postedBy, postImage, Changed, changed, changedBy, storeImage, writeImage, Ran, ranBy, runImage, RefusedPost, RefusedStore, RefusedWrite, RefusedRun}
 use Rattle.pramolyt.proofs.RoundTrips.{encodes-decoded}

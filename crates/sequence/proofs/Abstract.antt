@@ -24,8 +24,8 @@ use Rattle.board.specs.Left.{restOf, toCome}
 use Rattle.slots.specs.declared.record.Slot.{Slot}
 use Rattle.slots.specs.declared.record.Cursor.{Cursor}
 use Rattle.board.specs.declared.record.Board.{Board}
-use Rattle.board.specs.declared.steps.Next.{Next}
-use Rattle.board.specs.declared.steps.Next.the-variants.{Idle, Visit, Take, Broken}
+use Rattle.leaps.specs.declared.stretches.Next.{Next}
+use Rattle.leaps.specs.declared.stretches.Next.the-variants.{Idle, Visit, Take, Broken}
 use Rattle.board.proofs.Forms.{Good, good-of, zero-of, span-of, active-of, next-below}
 use Rattle.board.proofs.Chosen.{chosen}
 use Rattle.board.proofs.Keeps.{stays-well-formed, step-lengths}

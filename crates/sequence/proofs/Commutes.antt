@@ -12,7 +12,7 @@ use Rattle.board.specs.Runs.{Outcome, runOf, runCall}
 use Rattle.board.specs.Left.{stepsLeft, costOf, pixelsLeft, lastOnceDone}
 use Rattle.board.proofs.Forms.{good-of}
 use Rattle.board.proofs.Counts.{lesser}
-use Rattle.board.proofs.Callees.{run-accepted}
+use Rattle.board.proofs.Refused.{run-accepted}
 use Rattle.sequence.specs.Paper.{Call, post, store, write, run, fed, stepsToEmpty}
 use Rattle.sequence.specs.World.{World, Called, called}
 use Rattle.sequence.specs.Demand.{Reports}

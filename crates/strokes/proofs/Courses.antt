@@ -7,7 +7,7 @@ use mathlib.Core.Logic.{_⊎_, ⊎-elim, inl, inr}
 use Prim.Native.Nat.{ℕ, zero, suc, _+_, _-_, _*_, _≤_, _<_}
 use native.Mathlib.Nat.{add-mul, one-mul, mul-one, mul-le-mul, mul-le-mul-right}
 use native.Mathlib.Omega.{arith}
-use borrow.Author.Tests.{eqb-true, eq-eqb, ne-eqb, le-ltb, ltb-false}
+use borrow.Author.Tests.{eqb-true, eq-eqb, ne-eqb, lt-ltb, le-ltb, ltb-true, ltb-false}
 use lib.Dec.{eqb, ltb}
 use lib.ListN.{getD, set}
 use Rattle.lemmas.proofs.Booleans.{by-cases}
@@ -19,36 +19,42 @@ use Rattle.registers.specs.declared.dashes.Pattern.{Pattern}
 use Rattle.geometry.specs.Clip.{placeIn}
 use Rattle.strokes.specs.Strokes.{Dashed, dashed}
 use Rattle.lemmas.specs.Turns.{inTurn}
-use Rattle.strokes.specs.Tracers.{Room, stepped, pointOn, RoomBoth, traced, tracerAfter, Runs, dashPen}
-use Rattle.strokes.specs.Cursors.{moved, Moves, cursorAfter, courseBy, courseOf, Places, mark, dashMark, markAt, dashMarkAt, markOn, dashMarkOn, Stretch}
+use Rattle.strokes.specs.Tracers.{Room, stepped, pointOn, RoomBoth, traced, tracerAfter, Runs}
+use Rattle.strokes.specs.Phases.{dashPen}
+use Rattle.strokes.specs.Cursors.{moved, Moves, cursorAfter, courseBy, courseOf, Places, Above, mark, dashMark, markAt, dashMarkAt, markOn, dashMarkOn, Stretch}
 use Rattle.strokes.specs.declared.Dashes.{Dashes}
 use Rattle.strokes.specs.declared.tracing.Stepper.{Stepper}
 use Rattle.strokes.specs.declared.tracing.Tracer.{Tracer}
 use Rattle.strokes.specs.declared.cursors.Cursor.{Cursor}
 use Rattle.strokes.specs.declared.cursors.Strides.{Strides}
 use Rattle.strokes.specs.declared.cursors.Course.{Course}
-use Rattle.lemmas.proofs.Turns.{turn-more, turn-agree}
-use Rattle.strokes.proofs.Plots.{clear-mark, pen-draws}
+use Rattle.lemmas.proofs.Turns.{turn-none, turn-more, turn-agree}
+use Rattle.strokes.proofs.Plots.{flat-drawn, clear-mark, pen-draws}
 
 -- a coordinate's step, in places
-shift : (c up down m r : ℕ) → down ≤ c + up → c * m + r + up * m - down * m ≡ (c + up - down) * m + r
-shift c up down m r l =
-    let same : (c + up - down + down) * m ≡ (c + up) * m = ap (λ (k : ℕ). k * m) (omega arith) in
-    omega (arith, same, add-mul (c + up - down) down m, add-mul c up m)
+module _ (c up down m r : ℕ) (here : origin ≤ c) (there : origin ≤ c + up - down) where
+  shift : (c - origin) * m + r + up * m - down * m ≡ (c + up - down - origin) * m + r
+  shift =
+      let d : ℕ = c - origin in
+      let same : (c + up - down - origin + down) * m ≡ (d + up) * m = ap (λ (k : ℕ). k * m) (omega arith) in
+      omega (arith, same, add-mul (c + up - down - origin) down m, add-mul d up m)
 
-enough : (c up down m r : ℕ) → down ≤ c + up → down * m ≤ c * m + r + up * m
-enough c up down m r l = omega (arith, mul-le-mul-right {m = down} {n = c + up} m l, add-mul c up m)
+  enough : down * m ≤ (c - origin) * m + r + up * m
+  enough =
+      let d : ℕ = c - origin in
+      let le : down ≤ d + up = omega arith in
+      omega (arith, mul-le-mul-right {m = down} {n = d + up} m le, add-mul d up m)
 
 -- an axis' part of a place, and of its strides
 pub record Reach (g : Stepper) (stride : ℕ) : Type 0 where
-  pub place-part : g .coordinate * stride ≤ 562949953421312
+  pub place-part : (g .coordinate - origin) * stride ≤ 562949953421312
   pub up-part : g .up * stride ≤ stride
   pub down-part : g .down * stride ≤ stride
 
 pub reach : (full : ℕ) (g : Stepper) (stride : ℕ) → Room full g → stride ≤ 4294967296 → Reach g stride
 reach full g stride r l =
     record {
-      place-part = mul-le-mul {n₁ = g .coordinate} {m₁ = stride} {n₂ = 131072} {m₂ = 4294967296} (r .coordinate-most) l;
+      place-part = mul-le-mul {n₁ = g .coordinate - origin} {m₁ = stride} {n₂ = 131072} {m₂ = 4294967296} (omega (arith, r .coordinate-most)) l;
       up-part = once (g .up) (r .up-most);
       down-part = once (g .down) (r .down-most);
     }
@@ -76,55 +82,77 @@ steps-by : (full : ℕ) (g : Stepper) → ltb (g .error + g .growth) full ≡ fa
 unfolding stepped
 steps-by full g t = rw t (refl, refl)
 
-module _ (u v : Stepper) (along across base full : ℕ) where
-  keeps-strides : courseBy (stepped full u) (stepped full v) along across base full .strides ≡ courseBy u v along across base full .strides
+module _ (u v : Stepper) (along across full : ℕ) where
+  keeps-strides : courseBy (stepped full u) (stepped full v) along across full .strides ≡ courseBy u v along across full .strides
   unfolding courseBy
   keeps-strides =
       let p = keeps full u in
       let q = keeps full v in
       rw (p .1, p .2, q .0, q .1, q .2)
 
-  major-step : u .growth ≡ full → Room full u
-      → u .coordinate * along + v .coordinate * across + u .up * along - u .down * along
-      ≡ (u .coordinate + u .up - u .down) * along + v .coordinate * across
-  major-step e p = shift (u .coordinate) (u .up) (u .down) along (v .coordinate * across) (p .enough (omega arith))
+-- two pixels of a course, one after the other
+module _ (u v : Stepper) (along across full : ℕ) (e : u .growth ≡ full) (room : Room full v)
+    (u-here : origin ≤ u .coordinate) (u-there : origin ≤ stepped full u .coordinate)
+    (v-here : origin ≤ v .coordinate) (v-there : origin ≤ stepped full v .coordinate) where
+  on : ℕ
+  on = u .coordinate + u .up - u .down
 
-  follows : u .growth ≡ full → Room full u → Room full v
-      → courseBy (stepped full u) (stepped full v) along across base full .start
-      ≡ moved (courseBy u v along across base full .strides) (courseBy u v along across base full .start)
+  u-next : origin ≤ u .coordinate + u .up - u .down
+  u-next = rw (major-steps full u e) at u-there
+
+  major-step : (u .coordinate - origin) * along + (v .coordinate - origin) * across + u .up * along - u .down * along
+      ≡ (u .coordinate + u .up - u .down - origin) * along + (v .coordinate - origin) * across
+  major-step = shift (u .coordinate) (u .up) (u .down) along ((v .coordinate - origin) * across) u-here u-next
+
+  follows : courseBy (stepped full u) (stepped full v) along across full .start
+      ≡ moved (courseBy u v along across full .strides) (courseBy u v along across full .start)
   unfolding courseBy moved
-  follows e p q =
-      let on : ℕ = u .coordinate + u .up - u .down in
-      let major = major-step e p in
+  follows =
+      let major = major-step in
       by-cases (ltb (v .error + v .growth) full)
       (λ t.
       let k = stays-by full v t in
-      rw (t, major-steps full u e, k .0, k .1) (λ i. record { place = sym major i; error = v .error + v .growth }))
+      let less : v .error + v .growth < full = ltb-true (v .error + v .growth) full t in
+      let slack : full - (v .error + v .growth) ≡ full - v .error - v .growth = omega arith in
+      rw (lt-ltb (v .growth) (full - v .error) (omega arith), major-steps full u e, k .0, k .1)
+      (λ i. record { place = sym major i; slack = slack i }))
       (λ t.
       let k = steps-by full v t in
-      let minor = shift (v .coordinate) (v .up) (v .down) across (on * along) (q .enough (ltb-false (v .error + v .growth) full t)) in
-      let place : on * along + (v .coordinate + v .up - v .down) * across
-      ≡ u .coordinate * along + v .coordinate * across + u .up * along - u .down * along + v .up * across - v .down * across =
+      let more : full ≤ v .error + v .growth = ltb-false (v .error + v .growth) full t in
+      let next : origin ≤ v .coordinate + v .up - v .down = rw (k .0) at v-there in
+      let minor = shift (v .coordinate) (v .up) (v .down) across ((u .coordinate + u .up - u .down - origin) * along) v-here next in
+      let place : (u .coordinate + u .up - u .down - origin) * along + (v .coordinate + v .up - v .down - origin) * across
+      ≡ (u .coordinate - origin) * along + (v .coordinate - origin) * across + u .up * along - u .down * along + v .up * across - v .down * across =
       omega (arith, major, minor) in
-      rw (t, major-steps full u e, k .0, k .1) (λ i. record { place = place i; error = v .error + v .growth - full }))
+      let slack : full - (v .error + v .growth - full) ≡ full - v .error + (full - v .growth) = omega (arith, room .error-less, room .growth-most) in
+      rw (le-ltb (v .growth) (full - v .error) (omega arith), major-steps full u e, k .0, k .1)
+      (λ i. record { place = place i; slack = slack i }))
 
-  moves : u .growth ≡ full → Room full u → Room full v → along ≤ 4294967296 → across ≤ 4294967296
-      → Moves (courseBy u v along across base full .strides) (courseBy u v along across base full .start)
+  moves : Room full u → along ≤ 4294967296 → across ≤ 4294967296
+      → Moves (courseBy u v along across full .strides) (courseBy u v along across full .start)
   unfolding courseBy
-  moves e p q l h =
-      let on : ℕ = u .coordinate + u .up - u .down in
-      let major = major-step e p in
+  moves p l h =
+      let major = major-step in
       let far = reach full u along p l in
-      let wide = reach full v across q h in
+      let wide = reach full v across room h in
       record {
-        error-most = q .error-most;
-        growth-most = q .growth-most;
+        slack-some = omega (arith, room .error-less);
+        slack-most = omega (arith, room .full-most);
+        wrap-most = omega (arith, room .full-most);
         place-most = omega (arith, far, wide);
         ahead-most = omega (arith, far);
         up-most = omega (arith, wide);
-        back-enough = enough (u .coordinate) (u .up) (u .down) along (v .coordinate * across) (p .enough (omega arith));
-        down-enough = λ t. omega (arith, major, enough (v .coordinate) (v .up) (v .down) across (on * along) (q .enough t));
+        back-enough = enough (u .coordinate) (u .up) (u .down) along ((v .coordinate - origin) * across) u-here u-next;
+        down-enough =
+            λ t.
+            let more : full ≤ v .error + v .growth = omega (arith, t, room .error-less) in
+            let k = steps-by full v (le-ltb (v .error + v .growth) full more) in
+            let next : origin ≤ v .coordinate + v .up - v .down = rw (k .0) at v-there in
+            omega (arith, major, enough (v .coordinate) (v .up) (v .down) across ((u .coordinate + u .up - u .down - origin) * along) v-here next);
       }
+
+pub first-room : (t : Tracer) (n : ℕ) → 0 < n → Runs t n → RoomBoth t
+first-room t n some r = rw (turn-none (λ _. traced) t) (r 0 some)
 
 abbrev Major : Tracer → Type 0
 Major t = (t .x .growth ≡ t .full) ⊎ (t .y .growth ≡ t .full)
@@ -135,10 +163,10 @@ y-major t m h = ⊎-elim (λ e. absurd (false≢true (sym h ∙ eq-eqb (t .x .gr
 
 module _ (width : ℕ) (t : Tracer) where
   abbrev x-first : Course
-  x-first = courseBy (t .x) (t .y) 1 width (origin * width + origin) (t .full)
+  x-first = courseBy (t .x) (t .y) 1 width (t .full)
 
   abbrev y-first : Course
-  y-first = courseBy (t .y) (t .x) width 1 (origin * width + origin) (t .full)
+  y-first = courseBy (t .y) (t .x) width 1 (t .full)
 
   pub by-x : t .x .growth ≡ t .full → x-first ≡ courseOf width t
   unfolding courseOf
@@ -148,15 +176,23 @@ module _ (width : ℕ) (t : Tracer) where
   unfolding courseOf
   by-y e = rw (ne-eqb (t .x .growth) (t .full) e)
 
-  base-is : courseOf width t .strides .base ≡ origin * width + origin
-  unfolding courseOf courseBy
-  base-is = by-cases (eqb (t .x .growth) (t .full)) (λ h. rw h refl) (λ h. rw h refl)
-
-  place-is : courseOf width t .start .place ≡ t .y .coordinate * width + t .x .coordinate
+  place-is : courseOf width t .start .place ≡ placeIn width (pointOn t)
   unfolding courseOf courseBy
   place-is =
-      by-cases (eqb (t .x .growth) (t .full)) (λ h. rw h (omega (arith, mul-one (t .x .coordinate))))
-      (λ h. rw h (omega (arith, mul-one (t .x .coordinate))))
+      by-cases (eqb (t .x .growth) (t .full)) (λ h. rw h (omega (arith, mul-one (t .x .coordinate - origin))))
+      (λ h. rw h (omega (arith, mul-one (t .x .coordinate - origin))))
+
+  slack-is : RoomBoth t → 0 < courseOf width t .start .slack
+  unfolding courseOf courseBy
+  slack-is r =
+      by-cases (eqb (t .x .growth) (t .full)) (λ h. rw h (omega (arith, r .y-room .error-less))) (λ h. rw h (omega (arith, r .x-room .error-less)))
+
+  pub stride-sum : (r : Course) → r ≡ courseOf width t → RoomBoth t → width ≤ 4294967296 → r .strides .ahead + r .strides .back ≤ 8589934592
+  unfolding courseOf courseBy
+  stride-sum r e b l =
+      rw e
+      (by-cases (eqb (t .x .growth) (t .full)) (λ h. rw h (omega (arith, reach (t .full) (t .x) 1 (b .x-room) (omega arith))))
+      (λ h. rw h (omega (arith, reach (t .full) (t .y) width (b .y-room) l))))
 
   still : {b : Bool} → eqb (t .x .growth) (t .full) ≡ b → eqb (stepped (t .full) (t .x) .growth) (t .full) ≡ b
   still h = ap (λ (k : ℕ). eqb k (t .full)) (keeps (t .full) (t .x) .0) ∙ h
@@ -164,23 +200,24 @@ module _ (width : ℕ) (t : Tracer) where
   strides-kept : courseOf width (traced t) .strides ≡ courseOf width t .strides
   unfolding courseOf traced
   strides-kept =
-      by-cases (eqb (t .x .growth) (t .full))
-      (λ h. rw (still h, h) (keeps-strides (t .x) (t .y) 1 width (origin * width + origin) (t .full)))
-      (λ h. rw (still h, h) (keeps-strides (t .y) (t .x) width 1 (origin * width + origin) (t .full)))
+      by-cases (eqb (t .x .growth) (t .full)) (λ h. rw (still h, h) (keeps-strides (t .x) (t .y) 1 width (t .full)))
+      (λ h. rw (still h, h) (keeps-strides (t .y) (t .x) width 1 (t .full)))
 
-  start-moves : Major t → RoomBoth t → courseOf width (traced t) .start ≡ moved (courseOf width t .strides) (courseOf width t .start)
+  start-moves : Major t → RoomBoth t → Above t → Above (traced t)
+      → courseOf width (traced t) .start ≡ moved (courseOf width t .strides) (courseOf width t .start)
   unfolding courseOf traced
-  start-moves m r =
+  start-moves m r a b =
       by-cases (eqb (t .x .growth) (t .full))
-      (λ h. rw (still h, h) (follows (t .x) (t .y) 1 width (origin * width + origin) (t .full) (eqb-true (t .x .growth) (t .full) h) (r .x-room) (r .y-room)))
-      (λ h. rw (still h, h) (follows (t .y) (t .x) width 1 (origin * width + origin) (t .full) (y-major t m h) (r .y-room) (r .x-room)))
+      (λ h. rw (still h, h) (follows (t .x) (t .y) 1 width (t .full) (eqb-true (t .x .growth) (t .full) h) (r .y-room) (a .0) (b .0) (a .1) (b .1)))
+      (λ h. rw (still h, h) (follows (t .y) (t .x) width 1 (t .full) (y-major t m h) (r .x-room) (a .1) (b .1) (a .0) (b .0)))
 
-  has-room : width ≤ 4294967296 → Major t → RoomBoth t → Moves (courseOf width t .strides) (courseOf width t .start)
-  unfolding courseOf
-  has-room l m r =
+  has-room : width ≤ 4294967296 → Major t → RoomBoth t → Above t → Above (traced t)
+      → Moves (courseOf width t .strides) (courseOf width t .start)
+  unfolding courseOf traced
+  has-room l m r a b =
       by-cases (eqb (t .x .growth) (t .full))
-      (λ h. rw h (moves (t .x) (t .y) 1 width (origin * width + origin) (t .full) (eqb-true (t .x .growth) (t .full) h) (r .x-room) (r .y-room) (omega arith) l))
-      (λ h. rw h (moves (t .y) (t .x) width 1 (origin * width + origin) (t .full) (y-major t m h) (r .y-room) (r .x-room) l (omega arith)))
+      (λ h. rw h (moves (t .x) (t .y) 1 width (t .full) (eqb-true (t .x .growth) (t .full) h) (r .y-room) (a .0) (b .0) (a .1) (b .1) (r .x-room) (omega arith) l))
+      (λ h. rw h (moves (t .y) (t .x) width 1 (t .full) (y-major t m h) (r .x-room) (a .1) (b .1) (a .0) (b .0) (r .y-room) l (omega arith)))
 
   major-kept : Major t → Major (traced t)
   unfolding traced
@@ -192,48 +229,49 @@ record At (width : ℕ) (t : Tracer) (k : ℕ) : Type 0 where
   strides-are : courseOf width t .strides ≡ courseOf width (tracerAfter t k) .strides
   major-is : Major (tracerAfter t k)
 
-after : (width : ℕ) (t : Tracer) (k : ℕ) → Runs t k → Major t → At width t k
+after : (width : ℕ) (t : Tracer) (k : ℕ) → Runs t k → Major t → ((j : ℕ) → j ≤ k → Above (tracerAfter t j)) → At width t k
 unfolding inTurn
-after width t zero r m = record { start-is = refl; strides-are = refl; major-is = m }
-after width t (suc k) r m =
+after width t zero r m a = record { start-is = refl; strides-are = refl; major-is = m }
+after width t (suc k) r m a =
     let u = tracerAfter t k in
-    let o = after width t k (λ j l. r j (omega arith)) m in
+    let o = after width t k (λ j l. r j (omega arith)) m (λ j l. a j (omega arith)) in
     record {
       start-is =
-          (λ i. moved (o .strides-are i) (o .start-is i)) ∙ sym (start-moves width u (o .major-is) (r k (omega arith)));
+          (λ i. moved (o .strides-are i) (o .start-is i))
+          ∙ sym (start-moves width u (o .major-is) (r k (omega arith)) (a k (omega arith)) (a (suc k) (omega arith)));
       strides-are = o .strides-are ∙ sym (strides-kept width u);
       major-is = major-kept width u (o .major-is);
     }
 
--- a biased place, less its bias
-unbiased : (width x y : ℕ) → origin ≤ x → origin ≤ y
-    → (origin * width + origin ≤ y * width + x) × (y * width + x - (origin * width + origin) ≡ (y - origin) * width + (x - origin))
-unbiased width x y p q =
-    let same : y * width ≡ (y - origin + origin) * width = ap (λ (k : ℕ). k * width) (omega arith) in
-    let split = add-mul (y - origin) origin width in
-    (omega (arith, same, split), omega (arith, same, split))
+module _ (width : ℕ) (t : Tracer) (n long : ℕ) (s : Stretch width t n long) where
+  above : (k : ℕ) → k < n → Above (tracerAfter t k)
+  above k l = (s .inside k l .x-in, s .inside k l .y-in)
 
-module _ (width : ℕ) (t : Tracer) (n long : ℕ) (narrow : width ≤ 4294967296) (s : Stretch width t n long) where
+  at : (k : ℕ) → k < n → At width t k
+  at k l = after width t k (λ j h. s .runs j (omega arith)) (s .major) (λ j h. above j (omega arith))
+
   pub place-on : (k : ℕ) → k < n
-      → cursorAfter (courseOf width t .strides) (courseOf width t .start) k .place - courseOf width t .strides .base
-      ≡ placeIn width (pointOn (tracerAfter t k))
-  place-on k l =
-      let u = tracerAfter t k in
-      let o = after width t k (λ j h. s .runs j (omega arith)) (s .major) in
-      let p = s .inside k l in
-      let whole = unbiased width (u .x .coordinate) (u .y .coordinate) (p .x-in) (p .y-in) in
-      rw (o .start-is, place-is width u, base-is width t) (whole .1)
+      → cursorAfter (courseOf width t .strides) (courseOf width t .start) k .place ≡ placeIn width (pointOn (tracerAfter t k))
+  place-on k l = ap (λ (c : Cursor). c .place) (at k l .start-is) ∙ place-is width (tracerAfter t k)
 
-  pub places : Places (courseOf width t .strides) (courseOf width t .start) n long
-  places k l =
-      let u = tracerAfter t k in
-      let o = after width t k (λ j h. s .runs j (omega arith)) (s .major) in
-      let p = s .inside k l in
-      let whole = unbiased width (u .x .coordinate) (u .y .coordinate) (p .x-in) (p .y-in) in
+  pub first-above : 0 < n → Above t
+  unfolding inTurn
+  first-above some = above 0 some
+
+  next-above : (k : ℕ) → k + 1 < n → Above (traced (tracerAfter t k))
+  unfolding inTurn
+  next-above k l = above (suc k) (omega arith)
+
+  pub places : 0 < n → width ≤ 4294967296 → Places (courseOf width t .strides) (courseOf width t .start) n long
+  places some narrow =
       record {
-        moves = rw (o .start-is, o .strides-are) (has-room width u narrow (o .major-is) (s .runs k l));
-        base-in = rw (o .start-is, place-is width u, base-is width t) (whole .0);
-        place-in = rw (place-on k l) (p .place-in);
+        slack-some = slack-is width t (first-room t n some (s .runs));
+        inside = λ k l. rw (place-on k l) (s .inside k l .place-in);
+        moves =
+            λ k l.
+            let o = at k (omega arith) in
+            rw (o .start-is, o .strides-are)
+            (has-room width (tracerAfter t k) narrow (o .major-is) (s .runs k (omega arith)) (above k (omega arith)) (next-above k l));
       }
 
   pub marks-on : (pen : Pen) (l m : List ℕ)
@@ -250,16 +288,20 @@ module _ (width : ℕ) (t : Tracer) (n long : ℕ) (narrow : width ≤ 429496729
 
 -- one more pixel of a loop
 module _ (s : Strides) (start c : Cursor) (j : ℕ) (at : c ≡ cursorAfter s start j) where
-  here : c .place - s .base ≡ cursorAfter s start j .place - s .base
-  here = ap (λ (q : Cursor). q .place - s .base) at
+  here : c .place ≡ cursorAfter s start j .place
+  here = ap (λ (q : Cursor). q .place) at
 
   pub mark-more : (pen : Pen) (l₀ l : List ℕ) (new : ℕ) → l ≡ inTurn (markAt pen s start) j l₀
-      → new ≡ drawn pen (getD l (c .place - s .base) 0) → set l (c .place - s .base) new ≡ inTurn (markAt pen s start) (j + 1) l₀
+      → new ≡ drawn pen (getD l (c .place) 0) → set l (c .place) new ≡ inTurn (markAt pen s start) (j + 1) l₀
   mark-more pen l₀ l new e f =
-      turn-more (markAt pen s start) l₀ j l (set l (c .place - s .base) new) e
-      (ap (λ (b : ℕ). set l (c .place - s .base) b) f ∙ ap (λ (i : ℕ). mark pen i l) here)
+      turn-more (markAt pen s start) l₀ j l (set l (c .place) new) e
+      (ap (λ (b : ℕ). set l (c .place) b) f ∙ ap (λ (i : ℕ). mark pen i l) here)
 
-  pub dash-mark-more : (d : Dashes) (o b r : Dashed) → b ≡ inTurn (dashMarkAt d s start) j o → r ≡ dashMark d (c .place - s .base) b
+  pub store-more : (pen : Pen) (l₀ l : List ℕ) → pen .keep ≡ 0 → l ≡ inTurn (markAt pen s start) j l₀
+      → set l (c .place) (pen .flip) ≡ inTurn (markAt pen s start) (j + 1) l₀
+  store-more pen l₀ l h e = mark-more pen l₀ l (pen .flip) e (flat-drawn pen (getD l (c .place) 0) h)
+
+  pub dash-mark-more : (d : Dashes) (o b r : Dashed) → b ≡ inTurn (dashMarkAt d s start) j o → r ≡ dashMark d (c .place) b
       → r ≡ inTurn (dashMarkAt d s start) (j + 1) o
   dash-mark-more d o b r e f = turn-more (dashMarkAt d s start) o j b r e (f ∙ ap (λ (i : ℕ). dashMark d i b) here)
 

@@ -1,4 +1,4 @@
--- The two functions' cases: what does not fit, no pixel, a stretch that is let through whole, and any other.
+-- The two functions' cases: what does not fit, a stretch of which nothing is let through, and one of which some is.
 -- Assumes nothing.
 use mathlib.Core.Path.{_≡_, refl, ap, sym, _∙_}
 use mathlib.Core.Bool.{true, false, _&&_}
@@ -6,8 +6,8 @@ use mathlib.Core.List.{List}
 use mathlib.Core.Logic.{_⊎_, inl, inr}
 use Prim.Native.Nat.{ℕ, _+_, _-_, _≤_, _<_}
 use native.Mathlib.Omega.{arith}
-use borrow.Author.Tests.{leb-true, leb-false}
-use lib.Dec.{leb}
+use borrow.Author.Tests.{leb-true, leb-false, ltb-true}
+use lib.Dec.{leb, ltb}
 use lib.ListN.{length}
 use Rattle.lemmas.proofs.Booleans.{by-cases, and-left, and-right}
 use Rattle.raster.specs.declared.Pen.{Pen}
@@ -16,58 +16,108 @@ use Rattle.geometry.specs.Clip.{inWindow}
 use Rattle.geometry.specs.Line.{distance, stepsOf, linePoint, xMajor}
 use Rattle.geometry.specs.declared.Point.{Point}
 use Rattle.geometry.specs.declared.Window.{Window}
-use Rattle.strokes.specs.Strokes.{windowFits, strokeFits, pixelsOf, strokeOf, Dashed, dashPixels, dashesOf}
+use Rattle.strokes.specs.Strokes.{windowFits, strokeFits, plotted, pixelsOf, strokeOf, Dashed, dash, dashPixels, dashesOf}
 use Rattle.lemmas.specs.Turns.{inTurn}
-use Rattle.strokes.specs.Tracers.{pointOn, Traces, RoomBoth, tracerAfter, Runs, traced, plotAt, dashAt}
+use Rattle.strokes.specs.Tracers.{pointOn, Traces, tracerAfter}
 use Rattle.strokes.specs.Cursors.{markOn, dashMarkOn, Stretch}
+use Rattle.strokes.specs.Spans.{Seen}
 use Rattle.strokes.specs.declared.Dashes.{Dashes}
+use Rattle.strokes.specs.declared.spans.Span.{Span}
 use Rattle.strokes.specs.declared.tracing.Tracer.{Tracer}
-use Rattle.lemmas.proofs.Turns.{turn-none, turn-agree}
-use Rattle.strokes.proofs.Between.{between}
-use Rattle.strokes.proofs.Traced.{traces-point, traces-run, pixel, traced-pixels, traced-dashes}
+use Rattle.lemmas.proofs.Turns.{turn-agree, turn-join, turn-idle}
+use Rattle.strokes.proofs.Traced.{traces-run, pixel, pixels-in-turn, dashes-in-turn}
 use Rattle.strokes.proofs.Fitting.{placed}
-use Rattle.strokes.proofs.Plots.{plot-shown, dash-mark-shown}
-
-pub first-room : (t : Tracer) (n : ℕ) → 0 < n → Runs t n → RoomBoth t
-first-room t n some r = rw (turn-none (λ _. traced) t) (r 0 some)
+use Rattle.strokes.proofs.Plots.{not-shown, plot-hidden, plot-shown, dash-hidden, dash-mark-shown}
 
 pub record Fit (width : ℕ) (w : Window) (a b : Point) (first n long : ℕ) : Type 0 where
   pub whole : strokeFits width w a b first n long ≡ true
   pub window-in : windowFits width w long ≡ true
-  pub pixels-in : first + n ≤ stepsOf a b
+  pub steps-in : 0 < stepsOf a b
+  pub pixels-in : first + n ≤ stepsOf a b + 1
 
 pub fit-of : (width : ℕ) (w : Window) (a b : Point) (first n long : ℕ) → strokeFits width w a b first n long ≡ true
     → Fit width w a b first n long
 fit-of width w a b first n long h =
-    let on = leb (first + n) (stepsOf a b) in
+    let held = windowFits width w long in
+    let more = ltb 0 (stepsOf a b) in
+    let on = leb (first + n) (stepsOf a b + 1) in
+    let both = and-left (held && more) on h in
     record {
       whole = h;
-      window-in = and-left (windowFits width w long) on h;
-      pixels-in = leb-true (first + n) (stepsOf a b) (and-right (windowFits width w long) on h);
+      window-in = and-left held more both;
+      steps-in = ltb-true 0 (stepsOf a b) (and-right held more both);
+      pixels-in = leb-true (first + n) (stepsOf a b + 1) (and-right (held && more) on h);
     }
 
--- a stretch whose ends are let through
-module _ (w : Window) (a b : Point) (first n : ℕ) (t : Tracer) (l : first + n ≤ stepsOf a b) (some : 0 < n) (o : Traces a b first t)
-    (ends : (inWindow w (pointOn t) && inWindow w (linePoint a b (first + (n - 1)))) ≡ true) where
-  all-shown : (k : ℕ) → k < n → inWindow w (pointOn (tracerAfter t k)) ≡ true
-  all-shown k h =
-      let last = linePoint a b (first + (n - 1)) in
-      let start : inWindow w (linePoint a b first) ≡ true =
-      ap (inWindow w) (sym (traces-point a b first t (omega arith) o)) ∙ and-left (inWindow w (pointOn t)) (inWindow w last) ends in
-      ap (inWindow w) (pixel 0 w a b first n t l o k h)
-      ∙ between w a b first (first + k) (first + (n - 1)) (omega arith) (omega arith) (omega arith) start (and-right (inWindow w (pointOn t)) (inWindow w last) ends)
+-- n steps of which only m from the p-th on change anything
+turn-part : {S : Type 0} (f : ℕ → S → S) (s : S) (n p m : ℕ) → p + m ≤ n
+    → ((k : ℕ) → k < n → (p ≤ k → p + m ≤ k) → (t : S) → f k t ≡ t) → inTurn (λ k. f (p + k)) m s ≡ inTurn f n s
+turn-part f s n p m l idle =
+    let q : ℕ = n - (p + m) in
+    let all : p + (m + q) ≡ n = omega arith in
+    sym (turn-idle (λ k. f (p + (m + k))) q (inTurn (λ k. f (p + k)) m s) (λ k h t. idle (p + (m + k)) (omega arith) (λ g. omega arith) t))
+    ∙ turn-join (λ k. f (p + k)) s m q
+    ∙ ap (inTurn (λ k. f (p + k)) (m + q)) (sym (turn-idle f p s (λ k h t. idle k (omega arith) (λ g. omega arith) t)))
+    ∙ turn-join f s p (m + q)
+    ∙ ap (λ (k : ℕ). inTurn f k s) all
 
-  pub marked-pixels : (width : ℕ) (pen : Pen) (m₀ m : List ℕ) → m ≡ inTurn (markOn width pen t) n m₀ → m ≡ pixelsOf width w pen a b first n m₀
-  marked-pixels width pen m₀ m e =
-      e ∙ turn-agree (markOn width pen t) (plotAt width w pen t) n m₀
-      (λ k h s. plot-shown width w (pointOn (tracerAfter t k)) s pen _ (all-shown k h) refl)
-      ∙ traced-pixels width w a b first n t l o pen m₀
+-- what a window lets through of n pixels
+module _ (w : Window) (a b : Point) (first n : ℕ) (s : Span) (seen : Seen w a b first n s) where
+  hidden : (k : ℕ) → k < n → (s .start ≤ first + k → s .end ≤ first + k) → inWindow w (linePoint a b (first + k)) ≡ false
+  hidden k h out =
+      not-shown (inWindow w (linePoint a b (first + k)))
+      (λ e. let o = seen .only (first + k) (omega arith) (omega arith) e in omega (arith, o, out (o .0)))
 
-  pub marked-dashes : (width : ℕ) (d : Dashes) (s r : Dashed) → r ≡ inTurn (dashMarkOn width d t) n s → r ≡ dashPixels width w d a b first n s
-  marked-dashes width d s r e =
-      e ∙ turn-agree (dashMarkOn width d t) (dashAt width w d t) n s
-      (λ k h q. dash-mark-shown width w (pointOn (tracerAfter t k)) d q (all-shown k h))
-      ∙ traced-dashes width w a b first n t l o d s
+  module _ {S : Type 0} (f : Point → S → S) (idle : (p : Point) (t : S) → inWindow w p ≡ false → f p t ≡ t) where
+    seen-none : (t : S) → s .end ≤ s .start → inTurn (λ k. f (linePoint a b (first + k))) n t ≡ t
+    seen-none t e =
+        turn-idle (λ k. f (linePoint a b (first + k))) n t (λ k h u. idle (linePoint a b (first + k)) u (hidden k h (λ g. omega arith)))
+
+    seen-some : (t : S) → s .start < s .end
+        → inTurn (λ k. f (linePoint a b (s .start + k))) (s .end - s .start) t ≡ inTurn (λ k. f (linePoint a b (first + k))) n t
+    seen-some t l =
+        let p : ℕ = s .start - first in
+        let m : ℕ = s .end - s .start in
+        let low = seen .from-first in
+        let high = seen .to-last in
+        turn-agree (λ k. f (linePoint a b (s .start + k))) (λ k. f (linePoint a b (first + (p + k)))) m t
+        (λ k h u. ap (λ (i : ℕ). f (linePoint a b i) u) (omega arith))
+        ∙ turn-part (λ k. f (linePoint a b (first + k))) t n p m (omega arith)
+        (λ k h out u. idle (linePoint a b (first + k)) u (hidden k h (λ g. let o = out (omega arith) in omega arith)))
+
+  module _ (t : Tracer) (some : 0 < stepsOf a b) (l : first + n ≤ stepsOf a b + 1) (more : s .start < s .end) (o : Traces a b (s .start) t) where
+    on-line : s .start + (s .end - s .start) ≤ stepsOf a b + 1
+    on-line = let high = seen .to-last in omega arith
+
+    at : (k : ℕ) → k < s .end - s .start → pointOn (tracerAfter t k) ≡ linePoint a b (s .start + k)
+    at k h = pixel a b (s .start) (s .end - s .start) t some on-line o k h
+
+    pub all-shown : (k : ℕ) → k < s .end - s .start → inWindow w (pointOn (tracerAfter t k)) ≡ true
+    all-shown k h = ap (inWindow w) (at k h) ∙ seen .inside (s .start + k) (omega arith) (omega arith)
+
+    pub marked-pixels : (width : ℕ) (pen : Pen) (u m : List ℕ) → m ≡ inTurn (markOn width pen t) (s .end - s .start) u
+        → m ≡ pixelsOf width w pen a b first n u
+    marked-pixels width pen u m e =
+        e ∙ turn-agree (markOn width pen t) (λ k. plotted width w pen (linePoint a b (s .start + k))) (s .end - s .start) u
+        (λ k h v. plot-shown width w (pointOn (tracerAfter t k)) v pen _ (all-shown k h) refl ∙ ap (λ (p : Point). plotted width w pen p v) (at k h))
+        ∙ seen-some (plotted width w pen) (λ p v h. sym (plot-hidden width w p v pen h)) u more
+        ∙ pixels-in-turn width w pen a b first n u
+
+    pub marked-dashes : (width : ℕ) (d : Dashes) (u r : Dashed) → r ≡ inTurn (dashMarkOn width d t) (s .end - s .start) u
+        → r ≡ dashPixels width w d a b first n u
+    marked-dashes width d u r e =
+        e ∙ turn-agree (dashMarkOn width d t) (λ k. dash width w d (linePoint a b (s .start + k))) (s .end - s .start) u
+        (λ k h v. dash-mark-shown width w (pointOn (tracerAfter t k)) d v (all-shown k h) ∙ ap (λ (p : Point). dash width w d p v) (at k h))
+        ∙ seen-some (dash width w d) (λ p v h. dash-hidden width w p d v h) u more
+        ∙ dashes-in-turn width w d a b first n u
+
+  pub hidden-pixels : (width : ℕ) (pen : Pen) (u : List ℕ) → s .end ≤ s .start → u ≡ pixelsOf width w pen a b first n u
+  hidden-pixels width pen u e =
+      sym (seen-none (plotted width w pen) (λ p v h. sym (plot-hidden width w p v pen h)) u e) ∙ pixels-in-turn width w pen a b first n u
+
+  pub hidden-dashes : (width : ℕ) (d : Dashes) (u : Dashed) → s .end ≤ s .start → u ≡ dashPixels width w d a b first n u
+  hidden-dashes width d u e =
+      sym (seen-none (dash width w d) (λ p v h. dash-hidden width w p d v h) u e) ∙ dashes-in-turn width w d a b first n u
 
 major-of : (a b : Point) (i : ℕ) (t : Tracer) → Traces a b i t → (t .x .growth ≡ t .full) ⊎ (t .y .growth ≡ t .full)
 major-of a b i t o =
@@ -75,15 +125,25 @@ major-of a b i t o =
     (λ e. inl (omega (arith, o .full-is, o .along-x .grows, leb-true (distance (a .y) (b .y)) (distance (a .x) (b .x)) e)))
     (λ e. inr (omega (arith, o .full-is, o .along-y .grows, leb-false (distance (a .y) (b .y)) (distance (a .x) (b .x)) e)))
 
-pub stretch-of : (width long : ℕ) (w : Window) (u v first n : ℕ) (t : Tracer) → windowFits width w long ≡ true
-    → first + n ≤ stepsOf (pointOf u) (pointOf v) → 0 < n → Traces (pointOf u) (pointOf v) first t
-    → (inWindow w (pointOn t) && inWindow w (linePoint (pointOf u) (pointOf v) (first + (n - 1)))) ≡ true → Stretch width t n long
-stretch-of width long w u v first n t h l some o ends =
+pub stretch-of : (width long : ℕ) (w : Window) (u v first n : ℕ) (s : Span) (t : Tracer) → Fit width w (pointOf u) (pointOf v) first n long
+    → Seen w (pointOf u) (pointOf v) first n s → s .start < s .end → Traces (pointOf u) (pointOf v) (s .start) t
+    → Stretch width t (s .end - s .start) long
+stretch-of width long w u v first n s t fit seen more o =
+    let a = pointOf u in
+    let b = pointOf v in
     record {
-      runs = traces-run u v first n t l o;
-      major = major-of (pointOf u) (pointOf v) first t o;
-      inside = λ k g. placed width w long (pointOn (tracerAfter t k)) h (all-shown w (pointOf u) (pointOf v) first n t l some o ends k g);
+      runs = traces-run u v (s .start) (s .end - s .start) t (fit .steps-in) (on-line w a b first n s seen t (fit .steps-in) (fit .pixels-in) more o) o;
+      major = major-of a b (s .start) t o;
+      inside =
+          λ k g. placed width w long (pointOn (tracerAfter t k)) (fit .window-in) (all-shown w a b first n s seen t (fit .steps-in) (fit .pixels-in) more o k g);
     }
+
+pub some-left : (a b : ℕ) → a < b → 0 < b - a
+some-left a b h = omega arith
+
+pub start-in : (w : Window) (a b : Point) (first n : ℕ) (s : Span) → Seen w a b first n s → first + n ≤ stepsOf a b + 1 → s .start < s .end
+    → s .start ≤ stepsOf a b
+start-in w a b first n s seen l more = let high = seen .to-last in omega arith
 
 module _ (width : ℕ) (w : Window) (pen : Pen) (a b : Point) (first n : ℕ) (l : List ℕ) where
   pub stroke-fit : (m : List ℕ) → strokeFits width w a b first n (length l) ≡ true → m ≡ pixelsOf width w pen a b first n l
@@ -95,10 +155,6 @@ module _ (width : ℕ) (w : Window) (pen : Pen) (a b : Point) (first n : ℕ) (l
   unfolding strokeOf
   stroke-unfit h = rw h
 
-  pub stroke-none : strokeFits width w a b first n (length l) ≡ true → n ≡ 0 → l ≡ strokeOf width w pen a b first n l
-  unfolding pixelsOf
-  stroke-none h e = stroke-fit l h (ap (λ (k : ℕ). pixelsOf width w pen a b first k l) (sym e))
-
 module _ (width : ℕ) (w : Window) (d : Dashes) (a b : Point) (first n : ℕ) (s : Dashed) where
   pub dashes-fit : (r : Dashed) → strokeFits width w a b first n (length (s .buffer)) ≡ true → r ≡ dashPixels width w d a b first n s
       → r ≡ dashesOf width w d a b first n s
@@ -108,7 +164,3 @@ module _ (width : ℕ) (w : Window) (d : Dashes) (a b : Point) (first n : ℕ) (
   pub dashes-unfit : strokeFits width w a b first n (length (s .buffer)) ≡ false → s ≡ dashesOf width w d a b first n s
   unfolding dashesOf
   dashes-unfit h = rw h
-
-  pub dashes-none : strokeFits width w a b first n (length (s .buffer)) ≡ true → n ≡ 0 → s ≡ dashesOf width w d a b first n s
-  unfolding dashPixels
-  dashes-none h e = dashes-fit s h (ap (λ (k : ℕ). dashPixels width w d a b first k s) (sym e))

@@ -72,3 +72,6 @@ sum-fits held first n steps =
     (λ s. rw (t, s) (sym (le-leb (first + n) steps (omega (arith, leb-true first (steps - n) s)))))
     (λ s. rw (t, s) (sym (lt-leb (first + n) steps (omega (arith, leb-false first (steps - n) s))))))
     (λ t. rw t (sym (lt-leb (first + n) steps (omega (arith, leb-false n steps t))))))
+
+pub one-more : (n steps : ℕ) → n ≡ steps → steps < 65536 → n + 1 < 2 ^ 64
+one-more n steps e h = omega arith

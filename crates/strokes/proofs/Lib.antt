@@ -1,7 +1,10 @@
 pub mod Terms
 pub mod Between
+pub mod Crossings
 pub mod Traced
 pub mod Fitting
 pub mod Plots
 pub mod Courses
+pub mod Levels
+pub mod Inks
 pub mod Drawn

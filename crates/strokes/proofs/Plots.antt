@@ -5,7 +5,7 @@ use mathlib.Core.Bool.{Bool, true, false, cond, not, _&&_}
 use mathlib.Core.List.{List}
 use Prim.Native.Nat.{ℕ, _<_}
 use native.Mathlib.Nat.{mod-eq-of-lt}
-use lib.Bits.{bitAnd, xor-zero-r, and-mask}
+use lib.Bits.{bitAnd, xor-zero-r, xor-zero-l, and-zero-r, and-mask}
 use lib.ListN.{getD, set}
 use lib.Seq.{set-getD}
 use Rattle.lemmas.proofs.Booleans.{by-cases}
@@ -17,12 +17,20 @@ use Rattle.geometry.specs.declared.Window.{Window}
 use Rattle.registers.specs.Patterns.{patternBit, nextOf}
 use Rattle.registers.specs.declared.dashes.Pattern.{Pattern}
 use Rattle.strokes.specs.Strokes.{plotted, Dashed, dashed, dash}
-use Rattle.strokes.specs.Tracers.{clearPen, dashPen}
+use Rattle.strokes.specs.Phases.{clearPen}
 use Rattle.strokes.specs.Cursors.{mark, dashMark}
 use Rattle.strokes.specs.declared.Dashes.{Dashes}
 
+pub not-shown : (t : Bool) → (t ≡ true → ⊥) → t ≡ false
+not-shown true h = absurd (h refl)
+not-shown false h = refl
+
 clear-drawn : (x : ℕ) → x < 256 → drawn clearPen x ≡ x
 clear-drawn x h = xor-zero-r (bitAnd x 255) ∙ and-mask x 8 ∙ mod-eq-of-lt h
+
+-- a pen that keeps nothing
+pub flat-drawn : (pen : Pen) (x : ℕ) → pen .keep ≡ 0 → pen .flip ≡ drawn pen x
+flat-drawn pen x e = simp (e, and-zero-r, xor-zero-l)
 
 pub clear-mark : (place : ℕ) (l : List ℕ) → getD l place 0 < 256 → mark clearPen place l ≡ l
 clear-mark place l h = ap (set l place) (clear-drawn (getD l place 0) h) ∙ set-getD l place 0
@@ -44,17 +52,14 @@ module _ (width : ℕ) (w : Window) (p : Point) (l : List ℕ) where
   unfolding plotted
   plot-shown pen new h e = rw (h, e)
 
-  clear-plot : getD l (placeIn width p) 0 < 256 → plotted width w clearPen p l ≡ l
-  unfolding plotted
-  clear-plot h = by-cases (inWindow w p) (λ t. rw t (clear-mark (placeIn width p) l h)) (λ t. rw t refl)
-
-  pub dash-of : (d : Dashes) (q r : Pattern) (pen : Pen) (s : List ℕ) → ((k : ℕ) → getD l k 0 < 256) → pen ≡ dashPen d q
-      → s ≡ plotted width w pen p l → r ≡ cond (inWindow w p) (nextOf (d .control) q) q → dashed s r ≡ dash width w d p (dashed l q)
-  unfolding dash
-  dash-of d q r pen s h e f g =
-      let draw : Pen → List ℕ = λ k. plotted width w k p l in
-      let drew = f ∙ ap draw e ∙ pen-draws (patternBit (d .lpat) q) (d .clear) (d .fore) (d .back) draw l (clear-plot (h (placeIn width p))) in
-      λ i. dashed (drew i) (g i)
+pub dash-hidden : (width : ℕ) (w : Window) (p : Point) (d : Dashes) (s : Dashed) → inWindow w p ≡ false → dash width w d p s ≡ s
+unfolding dash plotted
+dash-hidden width w p d s h =
+    rw h (λ i. record { buffer = same (not (patternBit (d .lpat) (s .pattern)) && d .clear) (s .buffer) i; pattern = s .pattern })
+  where
+    same : {A : Type 0} (t : Bool) (x : A) → cond t x x ≡ x
+    same true x = refl
+    same false x = refl
 
 pub dash-mark-shown : (width : ℕ) (w : Window) (p : Point) (d : Dashes) (s : Dashed) → inWindow w p ≡ true
     → dashMark d (placeIn width p) s ≡ dash width w d p s

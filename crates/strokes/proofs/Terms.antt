@@ -40,6 +40,17 @@ module _ (n i a b : ℕ) (g : Stepper) (o : On n i a b g) where
       (⊎-elim (λ w. near-up w) (λ w. near-down w) (o .way))
       (near n i a b some)
 
+  pub on-room : 0 < n → i ≤ n → a < 131072 → b < 131072 → n < 65536 → Room (2 * n) g
+  on-room some l p q r =
+      record {
+        full-most = omega arith;
+        error-less = o .small;
+        growth-most = omega (arith, o .grows, o .slope);
+        coordinate-most = omega (arith, on-nearest some, nearest-below n i a b 131072 some l p q);
+        up-most = ⊎-elim (λ w. omega (arith, w .up-is)) (λ w. omega (arith, w .up-is)) (o .way);
+        down-most = ⊎-elim (λ w. omega (arith, w .down-is)) (λ w. omega (arith, w .down-is)) (o .way);
+      }
+
 module _ (n i a b : ℕ) (g : Stepper) (more : i < n) (o : On n i a b g) where
   -- where a step down is due there is one to take
   above-zero : Down n (exact n i a b) a b g → 2 * n ≤ g .error + g .growth → g .coordinate ≡ suc (g .coordinate - 1)
@@ -48,17 +59,6 @@ module _ (n i a b : ℕ) (g : Stepper) (more : i < n) (o : On n i a b g) where
       cases : (k : ℕ) → n ≤ 2 * (n * k) → k ≡ suc (k - 1)
       cases zero q = omega (arith, q)
       cases (suc k) q = omega arith
-
-  pub on-room : a < 131072 → b < 131072 → n < 65536 → Room (2 * n) g
-  on-room p q r =
-      record {
-        error-most = omega (arith, o .small);
-        growth-most = omega (arith, o .grows, o .slope);
-        coordinate-most = omega (arith, on-nearest n i a b g o (omega arith), nearest-below n i a b 131072 (omega arith) (omega arith) p q);
-        up-most = ⊎-elim (λ w. omega (arith, w .up-is)) (λ w. omega (arith, w .up-is)) (o .way);
-        down-most = ⊎-elim (λ w. omega (arith, w .down-is)) (λ w. omega (arith, w .down-is)) (o .way);
-        enough = λ h. ⊎-elim (λ w. omega (arith, w .down-is)) (λ w. omega (arith, w .down-is, above-zero w h)) (o .way);
-      }
 
   stays : g .error + g .growth < 2 * n
       → On n (i + 1) a b (record { coordinate = g .coordinate; error = g .error + g .growth; growth = g .growth; up = g .up; down = g .down })

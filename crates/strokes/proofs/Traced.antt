@@ -1,6 +1,6 @@
--- A tracer follows its line, and what is drawn at its pixels is drawn at the line's.
+-- A tracer follows its line.
 -- Assumes nothing.
-use mathlib.Core.Path.{_≡_, refl, ap, subst, _∙_}
+use mathlib.Core.Path.{_≡_, refl, ap, subst}
 use mathlib.Core.List.{List}
 use Prim.Native.Nat.{ℕ, zero, suc, _+_, _*_, _≤_, _<_}
 use native.Mathlib.Omega.{arith}
@@ -13,12 +13,14 @@ use Rattle.geometry.proofs.Whole.{x-within, y-within}
 use Rattle.geometry.proofs.Lines.{steps-lt}
 use Rattle.strokes.specs.Strokes.{plotted, pixelsOf, Dashed, dash, dashPixels}
 use Rattle.lemmas.specs.Turns.{inTurn}
-use Rattle.strokes.specs.Tracers.{On, pointOn, Traces, RoomBoth, traced, tracerAfter, Runs, plotAt, dashAt}
+use Rattle.strokes.specs.Tracers.{On, pointOn, Traces, RoomBoth, traced, tracerAfter, Runs}
 use Rattle.strokes.specs.declared.Dashes.{Dashes}
 use Rattle.strokes.specs.declared.tracing.Stepper.{Stepper}
 use Rattle.strokes.specs.declared.tracing.Tracer.{Tracer}
 use Rattle.strokes.proofs.Terms.{on-nearest, on-next, on-room}
-use Rattle.lemmas.proofs.Turns.{turn-more, turn-agree}
+
+within : (first k n steps : ℕ) → k < n → first + n ≤ steps + 1 → first + k ≤ steps
+within first k n steps h l = omega arith
 
 pub traces-of : (a b p q : Point) (n i : ℕ) (x y : Stepper) → p ≡ a → q ≡ b → n ≡ stepsOf a b
     → On n i (p .x) (q .x) x → On n i (p .y) (q .y) y → Traces a b i (record { x = x; y = y; full = 2 * n })
@@ -50,64 +52,38 @@ module _ (a b : Point) where
       subst (λ (j : ℕ). Traces a b j (traced (tracerAfter t k))) one
       (traces-next (i + k) (tracerAfter t k) (omega arith) (traces-after i t k (omega arith) o))
 
-pub traces-room : (v w i : ℕ) (t : Tracer) → i < stepsOf (pointOf v) (pointOf w) → Traces (pointOf v) (pointOf w) i t → RoomBoth t
-traces-room v w i t more o =
+pub traces-room : (v w i : ℕ) (t : Tracer) → 0 < stepsOf (pointOf v) (pointOf w) → i ≤ stepsOf (pointOf v) (pointOf w)
+    → Traces (pointOf v) (pointOf w) i t → RoomBoth t
+traces-room v w i t some l o =
     let n = stepsOf (pointOf v) (pointOf w) in
     record {
-      x-room = rw (o .full-is) (on-room n i (pointOf v .x) (pointOf w .x) (t .x) more (o .along-x) (x-within v .high) (x-within w .high) (steps-lt v w));
-      y-room = rw (o .full-is) (on-room n i (pointOf v .y) (pointOf w .y) (t .y) more (o .along-y) (y-within v .high) (y-within w .high) (steps-lt v w));
+      x-room = rw (o .full-is) (on-room n i (pointOf v .x) (pointOf w .x) (t .x) (o .along-x) some l (x-within v .high) (x-within w .high) (steps-lt v w));
+      y-room = rw (o .full-is) (on-room n i (pointOf v .y) (pointOf w .y) (t .y) (o .along-y) some l (y-within v .high) (y-within w .high) (steps-lt v w));
     }
 
-pub traces-run : (v w first n : ℕ) (t : Tracer) → first + n ≤ stepsOf (pointOf v) (pointOf w)
+pub traces-run : (v w first n : ℕ) (t : Tracer) → 0 < stepsOf (pointOf v) (pointOf w) → first + n ≤ stepsOf (pointOf v) (pointOf w) + 1
     → Traces (pointOf v) (pointOf w) first t → Runs t n
-traces-run v w first n t l o k h =
-    traces-room v w (first + k) (tracerAfter t k) (omega arith) (traces-after (pointOf v) (pointOf w) first t k (omega arith) o)
+traces-run v w first n t some l o k h =
+    let on : first + k ≤ stepsOf (pointOf v) (pointOf w) = within first k n (stepsOf (pointOf v) (pointOf w)) h l in
+    traces-room v w (first + k) (tracerAfter t k) some on (traces-after (pointOf v) (pointOf w) first t k on o)
 
 -- the line's pixels, in turn
-pixels-in-turn : (width : ℕ) (w : Window) (pen : Pen) (a b : Point) (first n : ℕ) (l : List ℕ)
+pub pixels-in-turn : (width : ℕ) (w : Window) (pen : Pen) (a b : Point) (first n : ℕ) (l : List ℕ)
     → inTurn (λ k. plotted width w pen (linePoint a b (first + k))) n l ≡ pixelsOf width w pen a b first n l
 unfolding inTurn pixelsOf
 pixels-in-turn width w pen a b first zero l = refl
 pixels-in-turn width w pen a b first (suc n) l =
     ap (plotted width w pen (linePoint a b (first + n))) (pixels-in-turn width w pen a b first n l)
 
-dashes-in-turn : (width : ℕ) (w : Window) (d : Dashes) (a b : Point) (first n : ℕ) (s : Dashed)
+pub dashes-in-turn : (width : ℕ) (w : Window) (d : Dashes) (a b : Point) (first n : ℕ) (s : Dashed)
     → inTurn (λ k. dash width w d (linePoint a b (first + k))) n s ≡ dashPixels width w d a b first n s
 unfolding inTurn dashPixels
 dashes-in-turn width w d a b first zero s = refl
 dashes-in-turn width w d a b first (suc n) s =
     ap (dash width w d (linePoint a b (first + n))) (dashes-in-turn width w d a b first n s)
 
-module _ (width : ℕ) (w : Window) (a b : Point) (first n : ℕ) (t : Tracer) (fits : first + n ≤ stepsOf a b) (o : Traces a b first t) where
-  pub pixel : (k : ℕ) → k < n → pointOn (tracerAfter t k) ≡ linePoint a b (first + k)
-  pixel k h = traces-point a b (first + k) (tracerAfter t k) (omega arith) (traces-after a b first t k (omega arith) o)
-
-  pub traced-pixels : (pen : Pen) (l : List ℕ) → inTurn (plotAt width w pen t) n l ≡ pixelsOf width w pen a b first n l
-  traced-pixels pen l =
-      turn-agree (plotAt width w pen t) (λ k. plotted width w pen (linePoint a b (first + k))) n l
-      (λ k h s. ap (λ p. plotted width w pen p s) (pixel k h))
-      ∙ pixels-in-turn width w pen a b first n l
-
-  pub traced-dashes : (d : Dashes) (s : Dashed) → inTurn (dashAt width w d t) n s ≡ dashPixels width w d a b first n s
-  traced-dashes d s =
-      turn-agree (dashAt width w d t) (λ k. dash width w d (linePoint a b (first + k))) n s
-      (λ k h s. ap (λ p. dash width w d p s) (pixel k h))
-      ∙ dashes-in-turn width w d a b first n s
-
--- one more pixel of a loop
-module _ (width : ℕ) (w : Window) (start t : Tracer) (j : ℕ) (p : Point) (at : t ≡ tracerAfter start j) (here : p ≡ pointOn t) where
-  on-pixel : p ≡ pointOn (tracerAfter start j)
-  on-pixel = here ∙ ap (λ (q : Tracer). pointOn q) at
-
-  pub plot-more : (pen : Pen) (l₀ l m : List ℕ) → l ≡ inTurn (plotAt width w pen start) j l₀ → m ≡ plotted width w pen p l
-      → m ≡ inTurn (plotAt width w pen start) (j + 1) l₀
-  plot-more pen l₀ l m e f =
-      turn-more (plotAt width w pen start) l₀ j l m e (f ∙ ap (λ (q : Point). plotted width w pen q l) on-pixel)
-
-  pub dash-more : (d : Dashes) (s₀ s r : Dashed) → s ≡ inTurn (dashAt width w d start) j s₀ → r ≡ dash width w d p s
-      → r ≡ inTurn (dashAt width w d start) (j + 1) s₀
-  dash-more d s₀ s r e f =
-      turn-more (dashAt width w d start) s₀ j s r e (f ∙ ap (λ (q : Point). dash width w d q s) on-pixel)
-
-pub tracer-more : (start t u : Tracer) (j : ℕ) → t ≡ tracerAfter start j → u ≡ traced t → u ≡ tracerAfter start (j + 1)
-tracer-more start t u j e f = turn-more (λ _. traced) start j t u e f
+pub pixel : (a b : Point) (first n : ℕ) (t : Tracer) → 0 < stepsOf a b → first + n ≤ stepsOf a b + 1 → Traces a b first t
+    → (k : ℕ) → k < n → pointOn (tracerAfter t k) ≡ linePoint a b (first + k)
+pixel a b first n t some l o k h =
+    let on : first + k ≤ stepsOf a b = within first k n (stepsOf a b) h l in
+    traces-point a b (first + k) (tracerAfter t k) some (traces-after a b first t k on o)

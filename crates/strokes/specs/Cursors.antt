@@ -22,35 +22,39 @@ use Rattle.strokes.specs.declared.cursors.Cursor.{Cursor}
 use Rattle.strokes.specs.declared.cursors.Strides.{Strides}
 use Rattle.strokes.specs.declared.cursors.Course.{Course}
 
+-- The minor axis steps where the growth leaves no slack.
 unfoldable pub moved : Strides → Cursor → Cursor
 moved s c =
-    cond (ltb (c .error + s .growth) (s .full))
-    (record { place = c .place + s .ahead - s .back; error = c .error + s .growth })
-    (record { place = c .place + s .ahead - s .back + s .up - s .down; error = c .error + s .growth - s .full })
+    cond (ltb (s .growth) (c .slack)) (record { place = c .place + s .ahead - s .back; slack = c .slack - s .growth })
+    (record { place = c .place + s .ahead - s .back + s .up - s .down; slack = c .slack + s .wrap })
 
 -- A move stays in the numbers of the machine.
 pub record Moves (s : Strides) (c : Cursor) : Type 0 where
-  pub error-most : c .error ≤ 4294967296
-  pub growth-most : s .growth ≤ 4294967296
+  pub slack-some : 0 < c .slack
+  pub slack-most : c .slack ≤ 4294967296
+  pub wrap-most : s .wrap ≤ 4294967296
   pub place-most : c .place ≤ 1125899906842624
   pub ahead-most : s .ahead ≤ 4294967296
   pub up-most : s .up ≤ 4294967296
   pub back-enough : s .back ≤ c .place + s .ahead
-  pub down-enough : s .full ≤ c .error + s .growth → s .down ≤ c .place + s .ahead - s .back + s .up
+  pub down-enough : c .slack ≤ s .growth → s .down ≤ c .place + s .ahead - s .back + s .up
 
 -- k pixels on
 abbrev pub cursorAfter : Strides → Cursor → ℕ → Cursor
 cursorAfter s c k = inTurn (λ _. moved s) k c
 
-unfoldable pub courseBy : Stepper → Stepper → ℕ → ℕ → ℕ → ℕ → Course
-courseBy major minor along across base full =
+unfoldable pub courseBy : Stepper → Stepper → ℕ → ℕ → ℕ → Course
+courseBy major minor along across full =
     record {
-      start = record { place = major .coordinate * along + minor .coordinate * across; error = minor .error };
+      start =
+          record {
+            place = (major .coordinate - origin) * along + (minor .coordinate - origin) * across;
+            slack = full - minor .error;
+          };
       strides =
           record {
-            base = base;
             growth = minor .growth;
-            full = full;
+            wrap = full - minor .growth;
             ahead = major .up * along;
             back = major .down * along;
             up = minor .up * across;
@@ -61,17 +65,13 @@ courseBy major minor along across base full =
 -- x is the major axis where its error term is full at each pixel
 unfoldable pub courseOf : ℕ → Tracer → Course
 courseOf width t =
-    cond (eqb (t .x .growth) (t .full)) (courseBy (t .x) (t .y) 1 width (origin * width + origin) (t .full))
-    (courseBy (t .y) (t .x) width 1 (origin * width + origin) (t .full))
+    cond (eqb (t .x .growth) (t .full)) (courseBy (t .x) (t .y) 1 width (t .full)) (courseBy (t .y) (t .x) width 1 (t .full))
 
--- A cursor's place is in the buffer, and it can move on.
-pub record Sound (s : Strides) (long : ℕ) (c : Cursor) : Type 0 where
-  pub moves : Moves s c
-  pub base-in : s .base ≤ c .place
-  pub place-in : c .place - s .base < long
-
-abbrev pub Places : Strides → Cursor → ℕ → ℕ → Type 0
-Places s c n long = (k : ℕ) → k < n → Sound s long (cursorAfter s c k)
+-- The places of n pixels are in the buffer, and each but the last can move on.
+pub record Places (s : Strides) (c : Cursor) (n long : ℕ) : Type 0 where
+  pub slack-some : 0 < c .slack
+  pub inside : (k : ℕ) → k < n → cursorAfter s c k .place < long
+  pub moves : (k : ℕ) → k + 1 < n → Moves s (cursorAfter s c k)
 
 -- One byte of the buffer, and one of a dashed line.
 abbrev pub mark : Pen → ℕ → List ℕ → List ℕ
@@ -88,10 +88,10 @@ dashMark d place s =
 
 -- At pixel k of a course.
 abbrev pub markAt : Pen → Strides → Cursor → ℕ → List ℕ → List ℕ
-markAt pen s c k = mark pen (cursorAfter s c k .place - s .base)
+markAt pen s c k = mark pen (cursorAfter s c k .place)
 
 abbrev pub dashMarkAt : Dashes → Strides → Cursor → ℕ → Dashed → Dashed
-dashMarkAt d s c k = dashMark d (cursorAfter s c k .place - s .base)
+dashMarkAt d s c k = dashMark d (cursorAfter s c k .place)
 
 -- At pixel k from a tracer on.
 abbrev pub markOn : ℕ → Pen → Tracer → ℕ → List ℕ → List ℕ
@@ -99,6 +99,10 @@ markOn width pen t k = mark pen (placeIn width (pointOn (tracerAfter t k)))
 
 abbrev pub dashMarkOn : ℕ → Dashes → Tracer → ℕ → Dashed → Dashed
 dashMarkOn width d t k = dashMark d (placeIn width (pointOn (tracerAfter t k)))
+
+-- A tracer's pixel is right of and below the origin.
+abbrev pub Above : Tracer → Type 0
+Above t = (origin ≤ t .x .coordinate) × (origin ≤ t .y .coordinate)
 
 -- A pixel in a buffer of `long` bytes.
 pub record Placed (width long : ℕ) (p : Point) : Type 0 where

@@ -1,3 +1,5 @@
 pub mod Strokes
 pub mod Tracers
 pub mod Cursors
+pub mod Spans
+pub mod Phases

@@ -2,7 +2,7 @@
 use mathlib.Core.Bool.{Bool, cond, not, _&&_}
 use mathlib.Core.List.{List}
 use Prim.Native.Nat.{ℕ, zero, suc, _+_, _-_, _*_}
-use lib.Dec.{leb}
+use lib.Dec.{leb, ltb}
 use lib.ListN.{length, getD, set}
 use Rattle.raster.specs.Selectors.{drawn}
 use Rattle.raster.specs.declared.Pen.{Pen}
@@ -33,9 +33,9 @@ windowFits width w long =
     && leb (w .bottom) (origin + 65536)
     && leb ((w .bottom - origin) * width) long
 
--- A window that does not fit, or pixels past the line's end, draw nothing.
+-- A window that does not fit, a line of one pixel, or pixels past the line's end, draw nothing.
 abbrev pub strokeFits : ℕ → Window → Point → Point → ℕ → ℕ → ℕ → Bool
-strokeFits width w a b first n long = windowFits width w long && leb (first + n) (stepsOf a b)
+strokeFits width w a b first n long = windowFits width w long && ltb 0 (stepsOf a b) && leb (first + n) (stepsOf a b + 1)
 
 unfoldable pub strokeOf : ℕ → Window → Pen → Point → Point → ℕ → ℕ → List ℕ → List ℕ
 strokeOf width w pen a b first n l = cond (strokeFits width w a b first n (length l)) (pixelsOf width w pen a b first n l) l

@@ -1,20 +1,14 @@
 -- A line's pixels by an error term: what the term is at each pixel, and the step to the next.
 use mathlib.Core.Path.{_≡_}
 use mathlib.Core.Bool.{true, cond}
-use mathlib.Core.List.{List}
 use mathlib.Core.Logic.{_⊎_}
 use Prim.Native.Nat.{ℕ, _+_, _-_, _*_, _≤_, _<_}
 use lib.Dec.{ltb}
-use Rattle.raster.specs.declared.Pen.{Pen}
 use Rattle.geometry.specs.Clip.{inWindow}
 use Rattle.geometry.specs.Line.{exact, distance, stepsOf, linePoint}
 use Rattle.geometry.specs.declared.Point.{Point}
 use Rattle.geometry.specs.declared.Window.{Window}
-use Rattle.registers.specs.Patterns.{patternBit}
-use Rattle.registers.specs.declared.dashes.Pattern.{Pattern}
-use Rattle.strokes.specs.Strokes.{plotted, Dashed, dash}
 use Rattle.lemmas.specs.Turns.{inTurn}
-use Rattle.strokes.specs.declared.Dashes.{Dashes}
 use Rattle.strokes.specs.declared.tracing.Stepper.{Stepper}
 use Rattle.strokes.specs.declared.tracing.Tracer.{Tracer}
 
@@ -56,14 +50,14 @@ stepped full g =
       down = g .down;
     })
 
--- A step stays in the numbers of the machine.
+-- The terms are in the numbers of the machine.
 pub record Room (full : ℕ) (g : Stepper) : Type 0 where
-  pub error-most : g .error ≤ 4294967296
-  pub growth-most : g .growth ≤ 4294967296
+  pub full-most : full ≤ 4294967296
+  pub error-less : g .error < full
+  pub growth-most : g .growth ≤ full
   pub coordinate-most : g .coordinate ≤ 131072
   pub up-most : g .up ≤ 1
   pub down-most : g .down ≤ 1
-  pub enough : full ≤ g .error + g .growth → g .down ≤ g .coordinate + g .up
 
 abbrev pub pointOn : Tracer → Point
 pointOn t = record { x = t .x .coordinate; y = t .y .coordinate }
@@ -86,20 +80,6 @@ tracerAfter t k = inTurn (λ _. traced) k t
 
 abbrev pub Runs : Tracer → ℕ → Type 0
 Runs t n = (k : ℕ) → k < n → RoomBoth (tracerAfter t k)
-
--- Pixel k from a tracer on, where the window lets it through.
-abbrev pub plotAt : ℕ → Window → Pen → Tracer → ℕ → List ℕ → List ℕ
-plotAt width w pen t k = plotted width w pen (pointOn (tracerAfter t k))
-
-abbrev pub dashAt : ℕ → Window → Dashes → Tracer → ℕ → Dashed → Dashed
-dashAt width w d t k = dash width w d (pointOn (tracerAfter t k))
-
--- The pen of a dash's pixel. A byte drawn with the clear pen is as it was.
-abbrev pub clearPen : Pen
-clearPen = record { keep = 255; flip = 0 }
-
-abbrev pub dashPen : Dashes → Pattern → Pen
-dashPen d q = cond (patternBit (d .lpat) q) (d .fore) (cond (d .clear) clearPen (d .back))
 
 -- Where a window lets through both ends of a stretch of a line, it lets through all of it; proved in proofs/Between.antt.
 abbrev pub Between : Type 0

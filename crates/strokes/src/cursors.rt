@@ -1,30 +1,33 @@
 // A stretch of a line that the window lets through whole: the place in the buffer moves by additions.
 ghost use mathlib.Core.Path.{_≡_};
-ghost use Prim.Native.Nat.{_≤_, _<_};
+ghost use Prim.Native.Nat.{_+_, _≤_, _<_};
 ghost use lib.ListN.{length};
+ghost use Rattle.geometry.specs.Coordinates.{origin};
 ghost use Rattle.strokes.specs.Strokes.{dashed};
 ghost use Rattle.lemmas.specs.Turns.{inTurn};
 ghost use Rattle.strokes.specs.Tracers.{Room, RoomBoth};
-ghost use Rattle.strokes.specs.Cursors.{Moves, moved, courseBy, courseOf, Places, markAt, dashMark, dashMarkAt, Stretch, markOn, dashMarkOn};
+ghost use Rattle.strokes.specs.Cursors.{Moves, moved, courseBy, courseOf, Places, Above, markAt, dashMarkAt, Stretch, markOn, dashMarkOn};
 use crate::Dashes;
+use crate::phases::back_pen;
+use crate::phases::ink;
+use crate::phases::phase_at;
 use crate::tracing::Stepper;
 use crate::tracing::Tracer;
-use crate::tracing::pen_at;
 use geometry::ORIGIN;
 use raster::Pen;
 use registers::Pattern;
+use rows::fill_row;
 
-// A pixel's place, held `base` up, and the error term of the minor axis.
+// A pixel's place, and how much the minor axis' error term may grow before it is full.
 pub struct Cursor {
     pub place: usize,
-    pub error: usize,
+    pub slack: usize,
 }
 
-// What a place moves by: ahead and back at each pixel, up and down where the error term is full.
+// What a place moves by: ahead and back at each pixel, up and down where the growth leaves no slack.
 pub struct Strides {
-    pub base: usize,
     pub growth: usize,
-    pub full: usize,
+    pub wrap: usize,
     pub ahead: usize,
     pub back: usize,
     pub up: usize,
@@ -37,15 +40,33 @@ impl Cursor {
         requires { ⌜ Moves s self ⌝ }
         ensures { λ r. ⌜ r ≡ moved s self ⌝ }
     {
-        let error = self.error + s.growth;
         let place = self.place + s.ahead - s.back;
-        if error < s.full {
-            return Cursor { place, error };
+        if s.growth < self.slack {
+            return Cursor {
+                place,
+                slack: self.slack - s.growth,
+            };
         }
         Cursor {
             place: place + s.up - s.down,
-            error: error - s.full,
+            slack: self.slack + s.wrap,
         }
+    }
+}
+
+impl Cursor {
+    // The same, for a loop that is compiled twice: with a growth, and for lines along an axis.
+    fn next_by_axis(self, s: Strides) -> Cursor
+        requires { ⌜ Moves s self ⌝ }
+        ensures { λ r. ⌜ r ≡ moved s self ⌝ }
+    {
+        if s.growth == 0 {
+            return Cursor {
+                place: self.place + s.ahead - s.back,
+                slack: self.slack,
+            };
+        }
+        self.next(s)
     }
 }
 
@@ -56,25 +77,17 @@ pub struct Course {
 }
 
 // A step of the major axis is `along` places, one of the minor axis `across`.
-fn course_by(
-    major: Stepper,
-    minor: Stepper,
-    along: usize,
-    across: usize,
-    base: usize,
-    full: usize,
-) -> Course
-    requires { ⌜ Room full major × Room full minor × (along ≤ 4294967296) × (across ≤ 4294967296) ⌝ }
-    ensures { λ r. ⌜ r ≡ courseBy major minor along across base full ⌝ }
+fn course_by(major: Stepper, minor: Stepper, along: usize, across: usize, full: usize) -> Course
+    requires { ⌜ Room full major × Room full minor × (origin ≤ major .coordinate) × (origin ≤ minor .coordinate) × (along ≤ 4294967296) × (across ≤ 4294967296) ⌝ }
+    ensures { λ r. ⌜ r ≡ courseBy major minor along across full ⌝ }
 {
     let start = Cursor {
-        place: major.coordinate * along + minor.coordinate * across,
-        error: minor.error,
+        place: (major.coordinate - ORIGIN) * along + (minor.coordinate - ORIGIN) * across,
+        slack: full - minor.error,
     };
     let strides = Strides {
-        base,
         growth: minor.growth,
-        full,
+        wrap: full - minor.growth,
         ahead: major.up * along,
         back: major.down * along,
         up: minor.up * across,
@@ -85,33 +98,65 @@ fn course_by(
 
 // From a tracer's pixel on, in rows of `width` places.
 fn course_of(t: Tracer, width: u32) -> Course
-    requires { ⌜ RoomBoth t ⌝ }
+    requires { ⌜ RoomBoth t × Above t ⌝ }
     ensures { λ r. ⌜ r ≡ courseOf width t ⌝ }
 {
     let row = width as usize;
-    let base = ORIGIN * row + ORIGIN;
     let x = t.x;
     let y = t.y;
     if x.growth == t.full {
-        course_by(x, y, 1, row, base, t.full)
+        course_by(x, y, 1, row, t.full)
     } else {
-        course_by(y, x, row, 1, base, t.full)
+        course_by(y, x, row, 1, t.full)
     }
 }
 
 // n pixels of a course.
 fn draw_places(buffer: &mut [u8], pen: Pen, s: Strides, start: Cursor, n: usize)
-    requires { ⌜ Places s start n (length (now buffer)) ⌝ }
+    requires { ⌜ (0 < n) × Places s start n (length (now buffer)) ⌝ }
     ensures { λ _. ⌜ now (buffer .exit) ≡ inTurn (markAt pen s start) n (now (buffer .entry)) ⌝ }
 {
+    let last = n - 1;
     let mut cursor = start;
     let mut j: usize = 0;
-    while j < n {
-        let at = cursor.place - s.base;
+    while j < last {
+        let at = cursor.place;
         buffer[at] = pen.draw(buffer[at]);
         cursor = cursor.next(s);
         j += 1;
     }
+    let at = cursor.place;
+    buffer[at] = pen.draw(buffer[at]);
+}
+
+// The same with a pen that keeps nothing of the old bytes.
+fn store_places(buffer: &mut [u8], pen: Pen, s: Strides, start: Cursor, n: usize)
+    requires { ⌜ (0 < n) × Places s start n (length (now buffer)) × (pen .keep ≡ 0) ⌝ }
+    ensures { λ _. ⌜ now (buffer .exit) ≡ inTurn (markAt pen s start) n (now (buffer .entry)) ⌝ }
+{
+    let last = n - 1;
+    let mut cursor = start;
+    let mut j: usize = 0;
+    while j < last {
+        let at = cursor.place;
+        buffer[at] = pen.flip;
+        cursor = cursor.next(s);
+        j += 1;
+    }
+    let at = cursor.place;
+    buffer[at] = pen.flip;
+}
+
+// The same as one row, where each place is next to the one before it.
+fn fill_places(buffer: &mut [u8], pen: Pen, s: Strides, start: Cursor, n: usize)
+    requires { ⌜ (0 < n) × Places s start n (length (now buffer)) × (s .growth ≡ 0) × (s .ahead + s .back ≡ 1) ⌝ }
+    ensures { λ _. ⌜ now (buffer .exit) ≡ inTurn (markAt pen s start) n (now (buffer .entry)) ⌝ }
+{
+    if s.back == 0 {
+        fill_row(buffer, start.place, n, pen);
+        return;
+    }
+    fill_row(buffer, start.place - (n - 1), n, pen);
 }
 
 // n pixels from a tracer's on.
@@ -120,18 +165,16 @@ pub(crate) fn draw_shown(buffer: &mut [u8], width: u32, pen: Pen, t: Tracer, n: 
     ensures { λ _. ⌜ now (buffer .exit) ≡ inTurn (markOn width pen t) n (now (buffer .entry)) ⌝ }
 {
     let course = course_of(t, width);
-    draw_places(buffer, pen, course.strides, course.start, n);
-}
-
-// One pixel of a dashed line, whose place is `at`.
-fn mark_dash(buffer: &mut [u8], dashes: Dashes, state: Pattern, at: usize) -> Pattern
-    requires { ⌜ at < length (now buffer) ⌝ }
-    ensures { λ r. ⌜ dashed (now (buffer .exit)) r ≡ dashMark dashes at (dashed (now (buffer .entry)) state) ⌝ }
-{
-    let control = dashes.control;
-    let pen = pen_at(dashes, state);
-    buffer[at] = pen.draw(buffer[at]);
-    state.next(control)
+    let s = course.strides;
+    if (s.growth == 0) & (s.ahead + s.back == 1) {
+        fill_places(buffer, pen, s, course.start, n);
+        return;
+    }
+    if pen.keep == 0 {
+        store_places(buffer, pen, s, course.start, n);
+        return;
+    }
+    draw_places(buffer, pen, s, course.start, n);
 }
 
 // n pixels of a course in dashes, and the pattern state after them.
@@ -143,18 +186,28 @@ fn dash_places(
     start: Cursor,
     n: usize,
 ) -> Pattern
-    requires { ⌜ Places s start n (length (now buffer)) ⌝ }
+    requires { ⌜ (0 < n) × Places s start n (length (now buffer)) ⌝ }
     ensures { λ r. ⌜ dashed (now (buffer .exit)) r ≡ inTurn (dashMarkAt dashes s start) n (dashed (now (buffer .entry)) pattern) ⌝ }
 {
-    let mut state = pattern;
+    let fore = dashes.fore;
+    let back = back_pen(dashes);
+    let keep: [u8; 2] = [back.keep, fore.keep];
+    let flip: [u8; 2] = [back.flip, fore.flip];
+    let last = n - 1;
+    let mut phase = phase_at(dashes.lpat, pattern);
     let mut cursor = start;
     let mut j: usize = 0;
-    while j < n {
-        state = mark_dash(buffer, dashes, state, cursor.place - s.base);
-        cursor = cursor.next(s);
+    while j < last {
+        let at = cursor.place;
+        buffer[at] = ink(&keep, &flip, phase.bits, buffer[at]);
+        phase = phase.next(dashes);
+        cursor = cursor.next_by_axis(s);
         j += 1;
     }
-    state
+    let at = cursor.place;
+    buffer[at] = ink(&keep, &flip, phase.bits, buffer[at]);
+    phase = phase.next(dashes);
+    phase.pattern(dashes.lpat)
 }
 
 // n pixels in dashes, and the pattern state after them.

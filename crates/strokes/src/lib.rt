@@ -5,13 +5,13 @@ ghost use Rattle.geometry.specs.Coordinates.{pointOf};
 ghost use Rattle.strokes.specs.Strokes.{windowFits, strokeFits, strokeOf, dashed, dashesOf};
 
 mod cursors;
+mod phases;
+mod spans;
 mod tracing;
 
 use crate::cursors::dash_shown;
 use crate::cursors::draw_shown;
-use crate::tracing::dash_tested;
-use crate::tracing::draw_tested;
-use crate::tracing::ends_shown;
+use crate::spans::seen_of;
 use crate::tracing::tracer_at;
 use entries::PatternControl;
 use geometry::ORIGIN;
@@ -51,7 +51,7 @@ fn window_fits(width: u32, w: Window, long: usize) -> bool
         & (rows * (width as usize) <= long)
 }
 
-// Whether the window lies in the buffer, and the pixels on the line before its end.
+// Whether the window lies in the buffer, and the pixels on a line of at least two.
 fn stroke_fits(
     width: u32,
     w: Window,
@@ -65,8 +65,9 @@ fn stroke_fits(
 {
     let steps = line_steps(from, to);
     let held = window_fits(width, w, long);
-    let left = saturating_sub(steps, n);
-    held & (n <= steps) & (first <= left)
+    let most = steps + 1;
+    let left = saturating_sub(most, n);
+    held & (0 < steps) & (n <= most) & (first <= left)
 }
 
 // n pixels of the line from `from` to `to`, its pixel `first` and those after it, on a buffer of rows of `width` pixels.
@@ -85,15 +86,12 @@ pub fn draw_line(
     if !stroke_fits(width, window, from, to, first, n, buffer.len()) {
         return;
     }
-    if n == 0 {
+    let seen = seen_of(window, from, to, first, n);
+    if seen.end <= seen.start {
         return;
     }
-    let start = tracer_at(from, to, first);
-    if ends_shown(window, start, from, to, first + (n - 1)) {
-        draw_shown(buffer, width, pen, start, n);
-    } else {
-        draw_tested(buffer, width, window, pen, start, n);
-    }
+    let tracer = tracer_at(from, to, seen.start);
+    draw_shown(buffer, width, pen, tracer, seen.end - seen.start);
 }
 
 // The same in dashes, from a pattern state to the one after them.
@@ -113,13 +111,10 @@ pub fn draw_dashes(
     if !stroke_fits(width, window, from, to, first, n, buffer.len()) {
         return start;
     }
-    if n == 0 {
+    let seen = seen_of(window, from, to, first, n);
+    if seen.end <= seen.start {
         return start;
     }
-    let tracer = tracer_at(from, to, first);
-    if ends_shown(window, tracer, from, to, first + (n - 1)) {
-        dash_shown(buffer, width, dashes, start, tracer, n)
-    } else {
-        dash_tested(buffer, width, window, dashes, start, tracer, n)
-    }
+    let tracer = tracer_at(from, to, seen.start);
+    dash_shown(buffer, width, dashes, start, tracer, seen.end - seen.start)
 }

@@ -4,12 +4,6 @@ use Rattle.strokes.proofs.Courses.{by-x, by-y}
 use Rattle.strokes.proofs.cursors.course_of.Statement.{statement}
 use Rattle.strokes.proofs.cursors.course_of.Tie as tie
 
-mul-base : tie.Need-mul-base
-mul-base c = search needs
-
-add-base : tie.Need-add-base
-add-base c = search needs
-
 course-by-requires : tie.Need-course-by-requires
 course-by-requires c κs = search needs
 
@@ -23,6 +17,4 @@ returns-2 : tie.Need-returns-2
 returns-2 c = c .course-by2 .ensures ∙ by-y _ _ (c .before .if1 .left)
 
 pub course-of-spec : {M : Type 1} → statement M
-course-of-spec =
-    tie.close
-    (tie.spec mul-base add-base course-by-requires course-by-requires-2 returns returns-2)
+course-of-spec = tie.close (tie.spec course-by-requires course-by-requires-2 returns returns-2)

@@ -1,53 +1,39 @@
 use borrow.Author.Needs.{needs}
-use mathlib.Core.Path.{refl, sym, _∙_}
-use Rattle.board.specs.declared.steps.Next.the-variants.{Visit}
-use Rattle.board.proofs.Chosen.{chosen}
-use Rattle.board.proofs.Goes.{take-leaps}
-use Rattle.board.proofs.Callees.{take-room}
+use mathlib.Core.Path.{ap}
+use native.Mathlib.Omega.{arith}
+use Rattle.commands.specs.Steps.{Scene}
+use Rattle.board.specs.Steps.{Machine, machine}
+use Rattle.board.proofs.Goes.{leap-next, leap-far, leap-stood, leap-idle, leap-broken}
 use Rattle.board.proofs.record.Board.leap.Statement.{statement}
 use Rattle.board.proofs.record.Board.leap.Tie as tie
 
-next-step-requires : tie.Need-next-step-requires
-next-step-requires c κs = search needs
+-- the board before the steps
+abbrev before : tie.Start → Machine
+before c = machine (c .args .self) (c .args .display .now) (c .args .virt .now)
 
-enum-told : tie.Need-enum-told
-enum-told c = search needs
+cast-end : tie.Need-cast-end
+cast-end c = search needs
 
-enum-told-2 : tie.Need-enum-told-2
-enum-told-2 c = search needs
+cast-end-2 : tie.Need-cast-end-2
+cast-end-2 c = search needs
 
-enum-known-next : tie.Need-enum-known-next
-enum-known-next c = search needs
+add-end : tie.Need-add-end
+add-end c = search needs
 
-taken-requires : tie.Need-taken-requires
-taken-requires c κs =
-    let told = c .before in
-    let o = told .before .before in
-    let s = o .before .before .before .before in
-    take-room _ _ _ (s .pre .0) (sym (o .next-step .ensures) ∙ told .next .given .1)
+cast-run-list : tie.Need-cast-run-list
+cast-run-list c = search needs
 
-enum-told-3 : tie.Need-enum-told-3
-enum-told-3 c = search needs
+run-list-requires : tie.Need-run-list-requires
+run-list-requires c κs = search needs
 
-burst-requires : tie.Need-burst-requires
-burst-requires c κs =
-    let told = c .before .before in
-    let o = told .before .before in
-    let s = o .before .before .before .before in
-    (chosen _ _ Visit (sym (o .next-step .ensures) ∙ told .enum-told3 .given .1), s .pre .0, s .pre .1)
+cast-moved : tie.Need-cast-moved
+cast-moved c =
+    let ran = c .before .before .before .before .before .before .before .before in
+    let start = ran .before .before .before .before .before .before .before .before .before .before .before .before .before in
+    omega (arith, leap-next _ _ (before start) (start .pre .0) _ (ran .run-list .ensures))
 
-returns : tie.Need-returns
-returns c = (sym (c .before .before .next-step .ensures) ∙ c .enum-told .given .1, refl, refl)
-
-returns-2 : tie.Need-returns-2
-returns-2 c = (sym (c .before .before .next-step .ensures) ∙ c .enum-told2 .given .1, refl, refl)
-
-returns-3 : tie.Need-returns-3
-returns-3 c =
-    let told = c .before .before in
-    let o = told .before .before in
-    let s = o .before .before .before .before in
-    rw (c .taken .ensures) (take-leaps _ _ _ _ (sym (o .next-step .ensures) ∙ told .next .given .1) (s .pre .1) (s .pre .0))
+moved-requires : tie.Need-moved-requires
+moved-requires c κs = search needs
 
 same-length : tie.Need-same-length
 same-length c = search needs
@@ -55,23 +41,65 @@ same-length c = search needs
 same-length-2 : tie.Need-same-length-2
 same-length-2 c = search needs
 
-returns-4 : tie.Need-returns-4
-returns-4 c = c .before .before .before .before .before .burst .ensures _
+returns : tie.Need-returns
+returns c =
+    let ran = c .before .before .before .before .before .before .before .before .before in
+    let start = ran .before .before .before .before .before .before .before .before .before .before .before .before .before in
+    rw (c .moved .ensures) (leap-far _ _ (before start) (start .pre .0) _ (ran .run-list .ensures) (c .before .before .before .if1 .taken))
+
+same-length-3 : tie.Need-same-length-3
+same-length-3 c = search needs
+
+same-length-4 : tie.Need-same-length-4
+same-length-4 c = search needs
+
+returns-2 : tie.Need-returns-2
+returns-2 c =
+    let none = c .before in
+    let ran = none .before .before .before .before .before .before in
+    let start = ran .before .before .before .before .before .before .before .before .before .before .before .before .before in
+    let is = ran .run-list .ensures in
+    let stood = leap-stood _ _ (before start) (start .pre .0) _ is (start .pre .1) (omega (arith, none .if1 .left)) in (
+      leap-broken _ _ (before start) (start .pre .0) _ is (start .pre .1) (omega (arith, none .if1 .left)) (c .if2 .taken),
+      ap (λ (s : Scene). s .display) stood,
+      ap (λ (s : Scene). s .virt) stood,
+    )
+
+same-length-5 : tie.Need-same-length-5
+same-length-5 c = search needs
+
+same-length-6 : tie.Need-same-length-6
+same-length-6 c = search needs
+
+returns-3 : tie.Need-returns-3
+returns-3 c =
+    let none = c .before in
+    let ran = none .before .before .before .before .before .before in
+    let start = ran .before .before .before .before .before .before .before .before .before .before .before .before .before in
+    let is = ran .run-list .ensures in
+    let stood = leap-stood _ _ (before start) (start .pre .0) _ is (start .pre .1) (omega (arith, none .if1 .left)) in (
+      leap-idle _ _ (before start) (start .pre .0) _ is (start .pre .1) (omega (arith, none .if1 .left)) (c .if2 .left),
+      ap (λ (s : Scene). s .display) stood,
+      ap (λ (s : Scene). s .virt) stood,
+    )
 
 pub leap-spec : {M : Type 1} → statement M
 leap-spec =
     tie.close
     (tie.spec
-    next-step-requires
-    enum-told
-    enum-told-2
-    enum-known-next
-    taken-requires
-    enum-told-3
-    burst-requires
-    returns
-    returns-2
-    returns-3
+    cast-end
+    cast-end-2
+    add-end
+    cast-run-list
+    run-list-requires
+    cast-moved
+    moved-requires
     same-length
     same-length-2
-    returns-4)
+    returns
+    same-length-3
+    same-length-4
+    returns-2
+    same-length-5
+    same-length-6
+    returns-3)

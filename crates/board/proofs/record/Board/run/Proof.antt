@@ -3,7 +3,7 @@ use mathlib.Core.Path.{_≡_, sym, _∙_}
 use mathlib.Core.Bool.{true}
 use borrow.Author.Tests.{not-true, not-false}
 use Rattle.board.specs.Record.{wellFormed}
-use Rattle.board.proofs.Callees.{run-malformed, run-wrong-size, run-accepted}
+use Rattle.board.proofs.Refused.{run-malformed, run-wrong-size, run-accepted}
 use Rattle.board.proofs.record.Board.run.Statement.{statement}
 use Rattle.board.proofs.record.Board.run.Tie as tie
 

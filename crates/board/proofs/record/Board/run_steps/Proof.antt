@@ -3,7 +3,7 @@ use Prim.Native.Nat.{_-_}
 use native.Mathlib.Omega.{arith}
 use borrow.Author.Needs.{needs}
 use Rattle.board.specs.Steps.{machine}
-use Rattle.board.specs.declared.steps.Next.the-variants.{Idle, Broken}
+use Rattle.leaps.specs.declared.stretches.Next.the-variants.{Idle, Broken}
 use Rattle.board.proofs.Goes.{Running, running-start, running-more, running-stops, running-spent, leap-as}
 use Rattle.board.proofs.record.Board.run_steps.Statement.{statement}
 use Rattle.board.proofs.record.Board.run_steps.Tie as tie

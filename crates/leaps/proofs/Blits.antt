@@ -1,0 +1,190 @@
+-- A visit of a blit is the one that the row loops draw.
+-- Assumes nothing.
+use mathlib.Core.Path.{_≡_, refl, ap, ap₂, sym, _∙_}
+use mathlib.Core.Bool.{Bool, true, false, not, cond, _&&_, _||_, and-true}
+use mathlib.Core.List.{List}
+use Prim.Native.Nat.{ℕ, _+_, _%_, _<_}
+use native.Mathlib.Nat.{mod-eq-of-lt}
+use native.Mathlib.Omega.{arith}
+use lib.Dec.{eqb, ltb}
+use lib.ListN.{length, getD, set}
+use lib.Seq.{set-getD}
+use Rattle.lemmas.proofs.Booleans.{by-cases}
+use Rattle.raster.specs.Raster.{newByte}
+use Rattle.raster.specs.Selectors.{penOf, drawn, selectorsOf, selected}
+use Rattle.raster.proofs.Wide.{pen-as, selectors-as}
+use Rattle.geometry.specs.Coordinates.{pointOf}
+use Rattle.geometry.specs.Clip.{rectOf, inRect, inBuffer, placeOf, inWindow, placeIn}
+use Rattle.geometry.specs.Blit.{blitCount, blitPoint, blitVisit}
+use Rattle.geometry.specs.declared.Point.{Point}
+use Rattle.geometry.specs.declared.Place.{Place}
+use Rattle.geometry.specs.declared.Place.the-variants.{At, Outside}
+use Rattle.geometry.specs.declared.Visit.the-variants.{At as VisitAt}
+use Rattle.geometry.proofs.Blits.{blit-at}
+use Rattle.geometry.proofs.Windows.{window-lets-through}
+use Rattle.rows.specs.Rows.{mixed}
+use Rattle.blits.specs.Blits.{painted, reads, targetAt, sourceAt, drawnAt, visited}
+use Rattle.blits.specs.declared.Paint.{Paint}
+use Rattle.blits.specs.declared.Paint.the-variants.{Solid, Copied, Moved}
+use Rattle.commands.specs.Visits.{commandIn, isBlit, countOf, visitAt, clippedOut, throughTo, targetOf}
+use Rattle.commands.specs.Sources.{keyed, readAt, copiedAt, copiedOf, sourceOf}
+use Rattle.commands.specs.Steps.{inked, inkedAt}
+use Rattle.leaps.specs.Leaps.{penIn, mixIn, paintOf, blitIn, windowIn}
+use Rattle.commands.specs.declared.Engine.{Engine}
+use Rattle.commands.specs.declared.Source.{Source}
+use Rattle.commands.specs.declared.Source.the-variants.{Value, Nothing}
+
+pub count-is : (e : Engine) → isBlit (commandIn e) ≡ true → countOf e ≡ blitCount (e .registers .xy2)
+unfolding countOf
+count-is e h = rw h
+
+-- a place, by two tests and by one
+one-test : (t u : Bool) (p : Place) → cond t Outside (cond u p Outside) ≡ cond (not t && u) p Outside
+one-test true u p = refl
+one-test false u p = refl
+
+-- the place of a visit that lies at a point
+pub place-of-visit : (e : Engine) (width height k : ℕ) (p : Point) → visitAt e k ≡ VisitAt p
+    → targetOf e width height k ≡ cond (inWindow (windowIn e width height) p) (At (placeIn width p)) Outside
+unfolding placeOf
+place-of-visit e width height k p h =
+    ap (throughTo e width height) h ∙ one-test (clippedOut e p) (inBuffer width height p) (At (placeIn width p))
+    ∙ ap (λ t. cond t (At (placeIn width p)) Outside)
+    (sym (window-lets-through width height (commandIn e .clip) (e .registers .clptl) (e .registers .clpbr) p))
+
+module _ (e : Engine) (width height k : ℕ) (blit : isBlit (commandIn e) ≡ true) (few : k < countOf e) where
+  abbrev target : Point
+  target = blitPoint (pointOf (e .registers .xy1)) (e .registers .xy2) (e .registers .xy3) k
+
+  abbrev source : Point
+  source = blitPoint (pointOf (e .registers .xy0)) (e .registers .xy2) (e .registers .xy3) k
+
+  abbrev seen : Bool
+  seen = inWindow (windowIn e width height) target
+
+  below : k < blitCount (e .registers .xy2)
+  below = omega (arith, few, count-is e blit)
+
+  visit-is : visitAt e k ≡ VisitAt target
+  unfolding visitAt
+  visit-is = rw blit (sym (blit-at (pointOf (e .registers .xy1)) (e .registers .xy2) (e .registers .xy3) k below))
+
+  place-is : targetOf e width height k ≡ cond seen (At (placeIn width target)) Outside
+  place-is = place-of-visit e width height k target visit-is
+
+  read-at : (t : Bool) (buffer : List ℕ) (i : ℕ) → readAt e buffer (cond t (At i) Outside) ≡ cond t (keyed e (getD buffer i 0)) Nothing
+  read-at true buffer i = refl
+  read-at false buffer i = refl
+
+  copied-is : (buffer : List ℕ) → copiedOf e width height k buffer ≡ cond (inBuffer width height source) (keyed e (getD buffer (placeIn width source) 0)) Nothing
+  unfolding copiedOf placeOf
+  copied-is buffer =
+      ap (copiedAt e width height buffer) (sym (blit-at (pointOf (e .registers .xy0)) (e .registers .xy2) (e .registers .xy3) k below))
+      ∙ read-at (inBuffer width height source) buffer (placeIn width source)
+
+pub code-small : (e : Engine) → commandIn e .code < 256
+code-small e = omega arith
+
+-- the mark of a value at a place that may be hidden
+pub ink-value : (e : Engine) (v : ℕ) (t : Bool) (i : ℕ) (l : List ℕ)
+    → inked e (Value v) (cond t (At i) Outside) l ≡ cond t (set l i (newByte (commandIn e .code) v (getD l i 0) (e .registers .mask))) l
+ink-value e v true i l = refl
+ink-value e v false i l = refl
+
+-- the mark of a byte that is read, unless it is KEY
+ink-keyed : (e : Engine) (s i : ℕ) (l : List ℕ) → e .registers .key < 256
+    → inked e (keyed e s) (At i) l ≡ set l i (mixed (mixIn e) s (getD l i 0))
+unfolding mixed
+ink-keyed e s i l small =
+    let same : e .registers .key % 256 ≡ e .registers .key = mod-eq-of-lt small in
+    by-cases (commandIn e .key && eqb s (e .registers .key))
+    (λ t.
+    ap (λ t. inked e (cond t Nothing (Value s)) (At i) l) t ∙ sym (set-getD l i 0)
+    ∙ ap (λ t. set l i (cond t (getD l i 0) (drawn (selected (mixIn e .selectors) s) (getD l i 0))))
+    (sym (ap (λ k. commandIn e .key && eqb s k) same ∙ t)))
+    (λ t.
+    ap (λ t. inked e (cond t Nothing (Value s)) (At i) l) t
+    ∙ ap (set l i) (sym (selectors-as (commandIn e .code) (e .registers .mask) (code-small e) s (getD l i 0)))
+    ∙ ap (λ t. set l i (cond t (getD l i 0) (drawn (selected (mixIn e .selectors) s) (getD l i 0))))
+    (sym (ap (λ k. commandIn e .key && eqb s k) same ∙ t)))
+
+-- a byte that is read, at a place and from a place that may be hidden
+ink-read : (e : Engine) (s : ℕ) (t u : Bool) (i : ℕ) (l : List ℕ) → e .registers .key < 256
+    → inked e (cond u (keyed e s) Nothing) (cond t (At i) Outside) l ≡ cond (t && u) (set l i (mixed (mixIn e) s (getD l i 0))) l
+ink-read e s true true i l small = ink-keyed e s i l small
+ink-read e s true false i l small = refl
+ink-read e s false u i l small = hidden u
+  where
+    kept : (o : Source) → inked e o Outside l ≡ l
+    kept (Value v) = refl
+    kept Nothing = refl
+
+    hidden : (u : Bool) → inked e (cond u (keyed e s) Nothing) Outside l ≡ l
+    hidden u = kept (cond u (keyed e s) Nothing)
+
+-- a visit's mark, by what the blit is painted from
+module _ (e : Engine) (width height k : ℕ) (blit : isBlit (commandIn e) ≡ true) (few : k < countOf e) (small : e .registers .key < 256) where
+  abbrev at : ℕ
+  at = placeIn width (target e width height k blit few)
+
+  abbrev from : ℕ
+  from = placeIn width (source e width height k blit few)
+
+  abbrev inside : Bool
+  inside = inBuffer width height (source e width height k blit few)
+
+  abbrev shown : Bool
+  shown = seen e width height k blit few
+
+  -- a visit of a blit with this paint
+  abbrev marked : Paint → List ℕ → List ℕ → List ℕ
+  marked paint other l = cond (shown && (not (reads paint) || inside)) (set l at (painted paint other l from (getD l at 0))) l
+
+  solid-marks : (l other : List ℕ)
+      → inked e (Value (e .registers .fore)) (targetOf e width height k) l
+      ≡ marked (Solid (penIn e (e .registers .fore))) other l
+  solid-marks l other =
+      ap (λ q. inked e (Value (e .registers .fore)) q l) (place-is e width height k blit few) ∙ ink-value e (e .registers .fore) shown at l
+      ∙ ap₂ (λ t x. cond t (set l at x) l) (sym (and-true shown))
+      (sym (pen-as (commandIn e .code) (e .registers .mask) (code-small e) (e .registers .fore) (getD l at 0)))
+
+  read-marks : (l buffer : List ℕ)
+      → inked e (copiedOf e width height k buffer) (targetOf e width height k) l
+      ≡ cond (shown && inside) (set l at (mixed (mixIn e) (getD buffer from 0) (getD l at 0))) l
+  read-marks l buffer =
+      ap₂ (λ s q. inked e s q l) (copied-is e width height k blit few buffer) (place-is e width height k blit few)
+      ∙ ink-read e (getD buffer from 0) shown inside at l small
+
+  -- the mark on the buffer that is drawn on, beside the other one
+  abbrev Marks : Source → List ℕ → List ℕ → Type 0
+  Marks s own other = inked e s (targetOf e width height k) own ≡ visited (blitIn e width height) other k own
+
+  marks-as : (paint : Paint) (s : Source) (own other : List ℕ) → paintOf e ≡ paint
+      → inked e s (targetOf e width height k) own ≡ marked paint other own → Marks s own other
+  unfolding visited
+  marks-as paint s own other p h = h ∙ ap (λ p. marked p other own) (sym p)
+
+  -- `to` is whether the virtual buffer is drawn on
+  abbrev MarksOn : Bool → List ℕ → List ℕ → Type 0
+  MarksOn to own other = Marks (sourceOf e width height k (cond to other own) (cond to own other)) own other
+
+  read-marks-on : (to from : Bool) (own other : List ℕ) → commandIn e .solid ≡ false → commandIn e .«to_virtual» ≡ to
+      → commandIn e .«from_virtual» ≡ from → MarksOn to own other
+  unfolding sourceOf paintOf
+  read-marks-on true true own other s v f =
+      marks-as (Moved (mixIn e)) (sourceOf e width height k other own) own other (rw (s, v, f)) (rw (s, blit, f) (read-marks own own))
+  read-marks-on true false own other s v f =
+      marks-as (Copied (mixIn e)) (sourceOf e width height k other own) own other (rw (s, v, f)) (rw (s, blit, f) (read-marks own other))
+  read-marks-on false true own other s v f =
+      marks-as (Copied (mixIn e)) (sourceOf e width height k own other) own other (rw (s, v, f)) (rw (s, blit, f) (read-marks own other))
+  read-marks-on false false own other s v f =
+      marks-as (Moved (mixIn e)) (sourceOf e width height k own other) own other (rw (s, v, f)) (rw (s, blit, f) (read-marks own own))
+
+  pub marks-on : (to : Bool) (own other : List ℕ) → commandIn e .«to_virtual» ≡ to → MarksOn to own other
+  unfolding sourceOf paintOf
+  marks-on to own other v =
+      by-cases (commandIn e .solid)
+      (λ s.
+      marks-as (Solid (penIn e (e .registers .fore))) (sourceOf e width height k (cond to other own) (cond to own other)) own other (rw s)
+      (rw s (solid-marks own other)))
+      (λ s. read-marks-on to (commandIn e .«from_virtual») own other s v refl)

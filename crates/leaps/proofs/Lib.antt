@@ -1,0 +1,5 @@
+pub mod Visiting
+pub mod Blits
+pub mod Rows
+pub mod Strokes
+pub mod Stretching

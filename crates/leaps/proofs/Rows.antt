@@ -1,0 +1,135 @@
+-- Many visits of a blit are the rows that the row loops draw.
+-- Assumes nothing.
+use mathlib.Core.Path.{_≡_, refl, ap, sym, _∙_}
+use mathlib.Core.Bool.{Bool, true, false, cond, _&&_, _||_}
+use mathlib.Core.List.{List}
+use Prim.Native.Nat.{ℕ, zero, suc, _+_, _-_, _*_, _≤_, _<_, min, max}
+use native.Mathlib.Omega.{arith}
+use borrow.Author.Tests.{eqb-true, eq-eqb, ltb-true, le-leb}
+use lib.Dec.{eqb, ltb}
+use lib.ListN.{length}
+use Rattle.lemmas.proofs.Booleans.{both, and-left, and-right}
+use Rattle.lemmas.specs.Turns.{inTurn}
+use Rattle.geometry.specs.Coordinates.{origin}
+use Rattle.geometry.specs.Clip.{rectOf, windowOf}
+use Rattle.geometry.specs.Blit.{blitCount}
+use Rattle.geometry.specs.declared.Place.{Place}
+use Rattle.blits.specs.declared.Paint.the-variants.{Solid, Copied, Moved}
+use Rattle.blits.specs.Blits.{visited, windowInside, blitFits, blitted}
+use Rattle.blits.proofs.Loops.{blit-in}
+use Rattle.entries.specs.declared.fields.Command.{Command}
+use Rattle.strokes.specs.Strokes.{Dashed, dashed}
+use Rattle.commands.specs.Visits.{commandIn, isBlit, isLine, countOf}
+use Rattle.commands.specs.Steps.{patternAfter, visitsOf}
+use Rattle.commands.specs.declared.Engine.{Engine}
+use Rattle.commands.proofs.Bounds.{count-same}
+use Rattle.leaps.specs.Leaps.{penIn, mixIn, paintOf, blitIn, movedTo, movedBy, canLeap, goesByRows}
+use Rattle.leaps.proofs.Visiting.{sceneOn, Marked, visits-are, Leaps, leaps-of}
+use Rattle.leaps.proofs.Blits.{count-is, marks-on}
+
+not-line : (c : Command) → isBlit c ≡ true → isLine c ≡ false
+not-line c h = ap (λ n. eqb n 2 || eqb n 5) (eqb-true (c .opcode) 1 h)
+
+pattern-stays : (e : Engine) (q : Place) → isBlit (commandIn e) ≡ true → patternAfter e q ≡ e .pattern
+unfolding patternAfter
+pattern-stays e q h = rw (not-line (commandIn e) h)
+
+same-blit : (e : Engine) (k width height : ℕ) → blitIn (movedTo e k (e .pattern)) width height ≡ blitIn e width height
+unfolding paintOf
+same-blit e k width height = refl
+
+module _ (e : Engine) (width height : ℕ) (blit : isBlit (commandIn e) ≡ true) (small : e .registers .key < 256) (own other : List ℕ) where
+  -- after k visits; the pattern stays
+  abbrev rowState : ℕ → Dashed
+  rowState k = dashed (inTurn (λ i. visited (blitIn e width height) other (e .visited + i)) k own) (e .pattern)
+
+  rows-marked : (to : Bool) → commandIn e .«to_virtual» ≡ to → Marked e width height to other rowState
+  unfolding inTurn
+  rows-marked to v =
+      record {
+        buffers =
+            λ k few.
+            let f = movedTo e k (e .pattern) in
+            marks-on f width height (e .visited + k) blit (omega (arith, few, count-same f e refl refl)) small to (rowState k .buffer) other v
+            ∙ ap (λ b. visited b other (e .visited + k) (rowState k .buffer)) (same-blit e k width height);
+        patterns = λ k few. pattern-stays (movedTo e k (e .pattern)) _ blit;
+      }
+
+-- a window lies in its buffer
+window-inside : (width height : ℕ) (clip : Bool) (a b : ℕ) → windowInside width height (windowOf width height clip a b) ≡ true
+unfolding windowOf
+window-inside width height true a b =
+    both
+    (both (both (le-leb origin (max origin (rectOf a b .left)) (omega arith)) (le-leb (min (origin + width) (rectOf a b .right + 1)) (origin + width) (omega arith)))
+    (le-leb origin (max origin (rectOf a b .top)) (omega arith)))
+    (le-leb (min (origin + height) (rectOf a b .bottom + 1)) (origin + height) (omega arith))
+window-inside width height false a b =
+    both
+    (both (both (le-leb origin origin (omega arith)) (le-leb (origin + width) (origin + width) (omega arith))) (le-leb origin origin (omega arith)))
+    (le-leb (origin + height) (origin + height) (omega arith))
+
+-- what lets visits go by rows
+pub record Goes (e : Engine) (n width height display virt : ℕ) : Type 0 where
+  pub leaps : Leaps e n width height display virt
+  pub blit : isBlit (commandIn e) ≡ true
+  pub key-small : e .registers .key < 256
+
+pub goes-of : (e : Engine) (n width height display virt : ℕ) → goesByRows e n width height display virt ≡ true → Goes e n width height display virt
+unfolding goesByRows
+goes-of e n width height display virt h =
+    let c1 = canLeap e n width height display virt in
+    let c2 = isBlit (commandIn e) in
+    let c3 = ltb (e .registers .key) 256 in
+    let h2 = and-left (c1 && c2) c3 h in
+    record {
+      leaps = leaps-of e n width height display virt (and-left c1 c2 h2);
+      blit = and-right c1 c2 h2;
+      key-small = ltb-true (e .registers .key) 256 (and-right (c1 && c2) c3 h);
+    }
+
+fits : (e : Engine) (n width height own other : ℕ) → isBlit (commandIn e) ≡ true → e .visited + n ≤ countOf e → own ≡ width * height
+    → other ≡ width * height → blitFits (blitIn e width height) (e .visited) n other own ≡ true
+fits e n width height own other blit few p q =
+    both
+    (both (both (eq-eqb own (width * height) p) (eq-eqb other (width * height) q))
+    (window-inside width height (commandIn e .clip) (e .registers .clptl) (e .registers .clpbr)))
+    (le-leb (e .visited + n) (blitCount (e .registers .xy2)) (omega (arith, few, count-is e blit)))
+
+-- n visits, from what the row loops did on the buffer that is drawn on
+module _ (e : Engine) (n width height display virt : ℕ) (g : Goes e n width height display virt) (f : Engine) (moved : f ≡ movedBy e n (e .pattern)) where
+  pub rows-are : (to : Bool) (own other : List ℕ) → length own ≡ width * height → length other ≡ width * height
+      → commandIn e .«to_virtual» ≡ to → (m : List ℕ) → m ≡ blitted (blitIn e width height) (e .visited) n other own
+      → sceneOn f to m other ≡ visitsOf n width height (sceneOn e to own other)
+  unfolding inTurn
+  rows-are to own other own-long other-long v m h =
+      let b = blitIn e width height in
+      let same = h ∙ sym (blit-in b (e .visited) n other own (fits e n width height (length own) (length other) (g .blit) (g .leaps .few) own-long other-long)) in
+      (λ i. sceneOn (moved i) to (same i) other)
+      ∙ sym (visits-are e width height to other (rowState e width height (g .blit) (g .key-small) own other) v (g .leaps .under-way) (g .leaps .some) refl
+      (rows-marked e width height (g .blit) (g .key-small) own other to v) n (g .leaps .few))
+
+-- what a blit draws with, by its flags
+module _ (e : Engine) (c : Command) (is : c ≡ commandIn e) where
+  paint-of : (b : Bool) → (f : Command → Bool) → f c ≡ b → f (commandIn e) ≡ b
+  paint-of b f h = ap f (sym is) ∙ h
+
+  pub solid-paint : c .solid ≡ true → Solid (penIn e (e .registers .fore)) ≡ paintOf e
+  unfolding paintOf
+  solid-paint s = rw (paint-of true (λ c. c .solid) s)
+
+  module _ (plain : c .solid ≡ false) where
+    pub moved-virtual : c .«to_virtual» ≡ true → c .«from_virtual» ≡ true → Moved (mixIn e) ≡ paintOf e
+    unfolding paintOf
+    moved-virtual t f = rw (paint-of false (λ c. c .solid) plain, paint-of true (λ c. c .«to_virtual») t, paint-of true (λ c. c .«from_virtual») f)
+
+    pub copied-virtual : c .«to_virtual» ≡ true → c .«from_virtual» ≡ false → Copied (mixIn e) ≡ paintOf e
+    unfolding paintOf
+    copied-virtual t f = rw (paint-of false (λ c. c .solid) plain, paint-of true (λ c. c .«to_virtual») t, paint-of false (λ c. c .«from_virtual») f)
+
+    pub copied-display : c .«to_virtual» ≡ false → c .«from_virtual» ≡ true → Copied (mixIn e) ≡ paintOf e
+    unfolding paintOf
+    copied-display t f = rw (paint-of false (λ c. c .solid) plain, paint-of false (λ c. c .«to_virtual») t, paint-of true (λ c. c .«from_virtual») f)
+
+    pub moved-display : c .«to_virtual» ≡ false → c .«from_virtual» ≡ false → Moved (mixIn e) ≡ paintOf e
+    unfolding paintOf
+    moved-display t f = rw (paint-of false (λ c. c .solid) plain, paint-of false (λ c. c .«to_virtual») t, paint-of false (λ c. c .«from_virtual») f)

@@ -1,0 +1,154 @@
+use borrow.Author.Needs.{needs}
+use mathlib.Core.Path.{refl, sym, _∙_}
+use Prim.Native.Nat.{_-_}
+use native.Mathlib.Omega.{arith}
+use Rattle.commands.specs.Steps.{scene}
+use Rattle.leaps.specs.declared.stretches.Next.the-variants.{Idle, Visit, Broken}
+use Rattle.leaps.proofs.Stretching.{says, take-room, Going, going-start, going-visits, going-takes, going-stops, going-spent}
+use Rattle.leaps.proofs.stretches.run_list.Statement.{statement}
+use Rattle.leaps.proofs.stretches.run_list.Tie as tie
+
+abbrev Inv-loop : tie.InvT-loop
+Inv-loop width height first end most list display₀ virt₀ e₀ next₀ k₀ display virt e next k =
+    Going list end width height most next₀ (scene e₀ display₀ virt₀) k next (scene e display virt)
+
+abbrev μ-loop : tie.MeasureT-loop
+μ-loop width height first end most list display₀ virt₀ e₀ next₀ k₀ display virt e next k = most - k
+
+loop-holds : tie.Need-loop-holds Inv-loop μ-loop
+loop-holds c = going-start _ _ _ _ _ _ _
+
+next-in-requires : tie.Need-next-in-requires Inv-loop μ-loop
+next-in-requires c κs = search needs
+
+enum-told : tie.Need-enum-told Inv-loop μ-loop
+enum-told c = search needs
+
+sub-visit-up-to : tie.Need-sub-visit-up-to Inv-loop μ-loop
+sub-visit-up-to c = omega arith
+
+visit-up-to-requires : tie.Need-visit-up-to-requires Inv-loop μ-loop
+visit-up-to-requires c κs =
+    let told = c .before .before in
+    let o = told .before .before in
+    let i = o .before in
+    (says _ _ _ _ Visit (sym (o .next-in .ensures) ∙ told .enum-told .given .1), omega (arith, i .loop-test .taken))
+
+add-k : tie.Need-add-k Inv-loop μ-loop
+add-k c =
+    let o = c .before .before .before .before .before .before in
+    let i = o .before .before .before .before .before .before in
+    omega (arith, o .visit-up-to .ensures .few, i .loop-test .taken, i .before .before .before .before .before .fits .most)
+
+loop-less : tie.Need-loop-less Inv-loop μ-loop
+loop-less c =
+    let o = c .before .before .before .before .before .before in
+    let i = o .before .before .before .before .before .before in
+    omega (arith, o .visit-up-to .ensures .some, o .visit-up-to .ensures .few, i .loop-test .taken)
+
+loop-again : tie.Need-loop-again Inv-loop μ-loop
+loop-again c =
+    let o = c .before .before .before .before .before .before in
+    let i = o .before .before .before .before .before .before in
+    going-visits _ _ _ _ _ _ _ _ _ _ (i .loop-test .taken) (i .before .loop .inv) _ _ (o .visit-up-to .ensures) (o .visit-up-to .kept .1 .1 .1 .1 .0)
+    (o .visit-up-to .kept .1 .1 .1 .1 .1 .0)
+
+enum-known-entry : tie.Need-enum-known-entry Inv-loop μ-loop
+enum-known-entry c = search needs
+
+take-requires : tie.Need-take-requires Inv-loop μ-loop
+take-requires c κs = search needs
+
+add-next : tie.Need-add-next Inv-loop μ-loop
+add-next c =
+    let told = c .before .before in
+    let o = told .before .before in
+    omega (arith, take-room _ _ _ _ _ (sym (o .next-in .ensures) ∙ told .entry .given .1), o .before .before .before .before .before .before .fits .end)
+
+add-k-2 : tie.Need-add-k-2 Inv-loop μ-loop
+add-k-2 c =
+    let i = c .before .before .before .before .before in
+    omega (arith, i .loop-test .taken, i .before .before .before .before .before .fits .most)
+
+loop-less-2 : tie.Need-loop-less-2 Inv-loop μ-loop
+loop-less-2 c =
+    let i = c .before .before .before .before .before in
+    omega (arith, i .loop-test .taken)
+
+loop-again-2 : tie.Need-loop-again-2 Inv-loop μ-loop
+loop-again-2 c =
+    let told = c .before .before in
+    let o = told .before .before in
+    let i = o .before in
+    going-takes _ _ _ _ _ _ _ _ _ _ (i .loop-test .taken) (i .before .loop .inv) _ (sym (o .next-in .ensures) ∙ told .entry .given .1) _ (c .take .ensures)
+
+enum-told-2 : tie.Need-enum-told-2 Inv-loop μ-loop
+enum-told-2 c = search needs
+
+same-length : tie.Need-same-length Inv-loop μ-loop
+same-length c = c .before .before .before .before .loop .inv .display-long
+
+same-length-2 : tie.Need-same-length-2 Inv-loop μ-loop
+same-length-2 c = c .before .before .before .before .loop .inv .virt-long
+
+returns : tie.Need-returns Inv-loop μ-loop
+returns c =
+    let o = c .before .before in
+    let i = o .before in
+    going-stops _ _ _ _ _ _ _ _ _ _ (i .loop-test .taken) (i .before .loop .inv) Idle (sym (o .next-in .ensures) ∙ c .enum-told2 .given .1) (λ _ _. refl)
+
+enum-told-3 : tie.Need-enum-told-3 Inv-loop μ-loop
+enum-told-3 c = search needs
+
+same-length-3 : tie.Need-same-length-3 Inv-loop μ-loop
+same-length-3 c = c .before .before .before .before .loop .inv .display-long
+
+same-length-4 : tie.Need-same-length-4 Inv-loop μ-loop
+same-length-4 c = c .before .before .before .before .loop .inv .virt-long
+
+returns-2 : tie.Need-returns-2 Inv-loop μ-loop
+returns-2 c =
+    let o = c .before .before in
+    let i = o .before in
+    going-stops _ _ _ _ _ _ _ _ _ _ (i .loop-test .taken) (i .before .loop .inv) Broken (sym (o .next-in .ensures) ∙ c .enum-told3 .given .1) (λ _ _. refl)
+
+same-length-5 : tie.Need-same-length-5 Inv-loop μ-loop
+same-length-5 c = c .before .loop .inv .display-long
+
+same-length-6 : tie.Need-same-length-6 Inv-loop μ-loop
+same-length-6 c = c .before .loop .inv .virt-long
+
+returns-3 : tie.Need-returns-3 Inv-loop μ-loop
+returns-3 c = going-spent _ _ _ _ _ _ _ _ _ _ (c .loop-test .left) (c .before .loop .inv)
+
+pub run-list-spec : {M : Type 1} → statement M
+run-list-spec =
+    tie.close
+    (tie.spec
+    Inv-loop
+    μ-loop
+    loop-holds
+    next-in-requires
+    enum-told
+    sub-visit-up-to
+    visit-up-to-requires
+    add-k
+    loop-less
+    loop-again
+    enum-known-entry
+    take-requires
+    add-next
+    add-k-2
+    loop-less-2
+    loop-again-2
+    enum-told-2
+    same-length
+    same-length-2
+    returns
+    enum-told-3
+    same-length-3
+    same-length-4
+    returns-2
+    same-length-5
+    same-length-6
+    returns-3)

@@ -1,0 +1,41 @@
+use borrow.Author.Needs.{needs}
+use Rattle.commands.specs.Steps.{scene}
+use Rattle.leaps.proofs.Stretching.{visits-done}
+use Rattle.leaps.proofs.stretches.visit_up_to.Statement.{statement}
+use Rattle.leaps.proofs.stretches.visit_up_to.Tie as tie
+
+pixels-left-requires : tie.Need-pixels-left-requires
+pixels-left-requires c κs = search needs
+
+least-requires : tie.Need-least-requires
+least-requires c κs = search needs
+
+visit-many-requires : tie.Need-visit-many-requires
+visit-many-requires c κs = search needs
+
+same-length : tie.Need-same-length
+same-length c = search needs
+
+same-length-2 : tie.Need-same-length-2
+same-length-2 c = search needs
+
+returns : tie.Need-returns
+returns c =
+    let done = c .before .before .before .before in
+    let few = done .before .before .before in
+    let left = few .before in
+    let start = left .before .before .before in
+    let s = start .args in
+    visits-done (s .most) (s .width) (s .height) (scene (s .e) (s .display .now) (s .virt .now)) _ _ _ (start .pre .0) (start .pre .1)
+    (left .pixels-left .ensures) (few .least .ensures) (done .visit-many .ensures)
+
+pub visit-up-to-spec : {M : Type 1} → statement M
+visit-up-to-spec =
+    tie.close
+    (tie.spec
+    pixels-left-requires
+    least-requires
+    visit-many-requires
+    same-length
+    same-length-2
+    returns)

@@ -1,0 +1,88 @@
+use borrow.Author.Needs.{needs}
+use Rattle.leaps.specs.Leaps.{goesByRows, goesByStroke}
+use Rattle.leaps.proofs.visits.visit_many.Statement.{statement}
+use Rattle.leaps.proofs.visits.visit_many.Tie as tie
+
+command-of-requires : tie.Need-command-of-requires
+command-of-requires c κs = search needs
+
+can-leap-requires : tie.Need-can-leap-requires
+can-leap-requires c κs = search needs
+
+visit-rows-requires : tie.Need-visit-rows-requires
+unfolding goesByRows
+visit-rows-requires c κs =
+    let chosen = c .before .before in
+    let o = chosen .before .before .before in
+    rw (o .can-leap .ensures, o .before .command-of .ensures) at (chosen .if1 .taken)
+
+same-length : tie.Need-same-length
+same-length c = search needs
+
+same-length-2 : tie.Need-same-length-2
+same-length-2 c = search needs
+
+returns : tie.Need-returns
+returns c = search needs
+
+is-line-requires : tie.Need-is-line-requires
+is-line-requires c κs = search needs
+
+line-start-requires : tie.Need-line-start-requires
+line-start-requires c κs = search needs
+
+line-steps-requires : tie.Need-line-steps-requires
+line-steps-requires c κs = search needs
+
+visit-stroke-requires : tie.Need-visit-stroke-requires
+unfolding goesByStroke
+visit-stroke-requires c κs =
+    let chosen = c .before .before in
+    let steps = chosen .before in
+    let line = steps .before .before in
+    let o = line .before .before .before .before in
+    rw (steps .line-steps .ensures, steps .before .line-start .ensures, line .is-line .ensures, o .can-leap .ensures, o .before .command-of .ensures)
+    at (chosen .if2 .taken)
+
+same-length-3 : tie.Need-same-length-3
+same-length-3 c = search needs
+
+same-length-4 : tie.Need-same-length-4
+same-length-4 c = search needs
+
+returns-2 : tie.Need-returns-2
+returns-2 c = search needs
+
+visit-each-requires : tie.Need-visit-each-requires
+visit-each-requires c κs = search needs
+
+same-length-5 : tie.Need-same-length-5
+same-length-5 c = search needs
+
+same-length-6 : tie.Need-same-length-6
+same-length-6 c = search needs
+
+returns-3 : tie.Need-returns-3
+returns-3 c = search needs
+
+pub visit-many-spec : {M : Type 1} → statement M
+visit-many-spec =
+    tie.close
+    (tie.spec
+    command-of-requires
+    can-leap-requires
+    visit-rows-requires
+    same-length
+    same-length-2
+    returns
+    is-line-requires
+    line-start-requires
+    line-steps-requires
+    visit-stroke-requires
+    same-length-3
+    same-length-4
+    returns-2
+    visit-each-requires
+    same-length-5
+    same-length-6
+    returns-3)

@@ -1,0 +1,85 @@
+use borrow.Author.Needs.{needs}
+use mathlib.Core.Path.{ap, _∙_}
+use mathlib.Core.Bool.{true, false}
+use Rattle.blits.specs.Blits.{blitted}
+use Rattle.commands.proofs.Tests.{flag-is}
+use Rattle.leaps.proofs.Rows.{goes-of, rows-are}
+use Rattle.leaps.proofs.visits.visit_rows.Statement.{statement}
+use Rattle.leaps.proofs.visits.visit_rows.Tie as tie
+
+command-of-requires : tie.Need-command-of-requires
+command-of-requires c κs = search needs
+
+blit-requires : tie.Need-blit-requires
+blit-requires c κs = search needs
+
+moved-by-requires : tie.Need-moved-by-requires
+moved-by-requires c κs = search needs
+
+cast-draw-blit : tie.Need-cast-draw-blit
+cast-draw-blit c = search needs
+
+draw-blit-requires : tie.Need-draw-blit-requires
+draw-blit-requires c κs = search needs
+
+cast-draw-blit-2 : tie.Need-cast-draw-blit-2
+cast-draw-blit-2 c = search needs
+
+draw-blit-requires-2 : tie.Need-draw-blit-requires-2
+draw-blit-requires-2 c κs = search needs
+
+same-length : tie.Need-same-length
+same-length c = search needs
+
+same-length-2 : tie.Need-same-length-2
+same-length-2 c = search needs
+
+returns : tie.Need-returns
+returns c =
+    let done = c .before .before in
+    let chosen = done .before .before .before .before in
+    let moved = chosen .before in
+    let o = moved .before in
+    let start = o .before .before .before .before .before in
+    let s = start .args in
+    let g = goes-of _ _ _ _ _ _ (start .pre) in
+    rows-are (s .e) (s .n) (s .width) (s .height) _ _ g _ (moved .moved-by .ensures) true (s .virt .now) (s .display .now) (g .leaps .virt-long)
+    (g .leaps .display-long) (flag-is (s .e) _ (o .before .command-of .ensures) (λ c. c .«to_virtual») _ (chosen .if1 .taken)) _
+    (done .draw-blit .ensures ∙ ap (λ b. blitted b (s .e .visited) (s .n) (s .display .now) (s .virt .now)) (o .blit .ensures))
+
+same-length-3 : tie.Need-same-length-3
+same-length-3 c = search needs
+
+same-length-4 : tie.Need-same-length-4
+same-length-4 c = search needs
+
+returns-2 : tie.Need-returns-2
+returns-2 c =
+    let done = c .before .before in
+    let chosen = done .before .before .before .before in
+    let moved = chosen .before in
+    let o = moved .before in
+    let start = o .before .before .before .before .before in
+    let s = start .args in
+    let g = goes-of _ _ _ _ _ _ (start .pre) in
+    rows-are (s .e) (s .n) (s .width) (s .height) _ _ g _ (moved .moved-by .ensures) false (s .display .now) (s .virt .now) (g .leaps .display-long)
+    (g .leaps .virt-long) (flag-is (s .e) _ (o .before .command-of .ensures) (λ c. c .«to_virtual») _ (chosen .if1 .left)) _
+    (done .draw-blit2 .ensures ∙ ap (λ b. blitted b (s .e .visited) (s .n) (s .virt .now) (s .display .now)) (o .blit .ensures))
+
+pub visit-rows-spec : {M : Type 1} → statement M
+visit-rows-spec =
+    tie.close
+    (tie.spec
+    command-of-requires
+    blit-requires
+    moved-by-requires
+    cast-draw-blit
+    draw-blit-requires
+    cast-draw-blit-2
+    draw-blit-requires-2
+    same-length
+    same-length-2
+    returns
+    same-length-3
+    same-length-4
+    returns-2)

@@ -1,0 +1,109 @@
+-- Many visits of one command at once: what the row and line loops are given. The visits themselves are those of `commands`.
+use mathlib.Core.Bool.{Bool, true, false, cond, _&&_}
+use mathlib.Core.List.{List}
+use Prim.Native.Nat.{ℕ, _+_, _-_, _*_, _%_}
+use lib.Dec.{eqb, leb, ltb}
+use Rattle.raster.specs.Selectors.{penOf, selectorsOf}
+use Rattle.raster.specs.declared.Pen.{Pen}
+use Rattle.geometry.specs.Coordinates.{pointOf}
+use Rattle.geometry.specs.Clip.{windowOf}
+use Rattle.geometry.specs.Line.{stepsOf}
+use Rattle.geometry.specs.declared.Window.{Window}
+use Rattle.rows.specs.declared.Mix.{Mix}
+use Rattle.blits.specs.declared.Blit.{Blit}
+use Rattle.blits.specs.declared.Paint.{Paint}
+use Rattle.blits.specs.declared.Paint.the-variants.{Solid, Copied, Moved}
+use Rattle.entries.specs.Fields.{patternControlOf}
+use Rattle.registers.specs.declared.dashes.Pattern.{Pattern}
+use Rattle.strokes.specs.Strokes.{strokeOf, Dashed, dashed, dashesOf}
+use Rattle.strokes.specs.declared.Dashes.{Dashes}
+use Rattle.commands.specs.Visits.{commandIn, isBlit, isLine, lineStart, countOf}
+use Rattle.commands.specs.declared.Engine.{Engine}
+
+-- The window of clip and buffer, and the pen of a value. FORE, BACK, MASK and KEY are bytes in a legal register file.
+abbrev pub windowIn : Engine → ℕ → ℕ → Window
+windowIn e width height = windowOf width height (commandIn e .clip) (e .registers .clptl) (e .registers .clpbr)
+
+abbrev pub penIn : Engine → ℕ → Pen
+penIn e value = penOf (commandIn e .code) (value % 256) (e .registers .mask % 256)
+
+abbrev pub mixIn : Engine → Mix
+mixIn e =
+    record {
+      selectors = selectorsOf (commandIn e .code) (e .registers .mask % 256);
+      keyed = commandIn e .key;
+      key = e .registers .key % 256;
+    }
+
+-- A blit draws with FORE, from the other buffer, or from the one that it draws on.
+unfoldable pub paintOf : Engine → Paint
+paintOf e =
+    cond (commandIn e .solid) (Solid (penIn e (e .registers .fore)))
+    (cond (commandIn e .«to_virtual»)
+    (cond (commandIn e .«from_virtual») (Moved (mixIn e)) (Copied (mixIn e)))
+    (cond (commandIn e .«from_virtual») (Copied (mixIn e)) (Moved (mixIn e))))
+
+abbrev pub blitIn : Engine → ℕ → ℕ → Blit
+blitIn e width height =
+    record {
+      width = width;
+      height = height;
+      window = windowIn e width height;
+      from = e .registers .xy0;
+      to = e .registers .xy1;
+      size = e .registers .xy2;
+      direction = e .registers .xy3;
+      paint = paintOf e;
+    }
+
+-- A line draws with FORE, or with FORE and BACK by its pattern.
+abbrev pub dashesIn : Engine → Dashes
+dashesIn e =
+    record {
+      lpat = e .registers .lpat;
+      fore = penIn e (e .registers .fore);
+      back = penIn e (e .registers .back);
+      clear = commandIn e .trnsp;
+      control = patternControlOf (e .registers .pctrl);
+    }
+
+-- n pixels of the line in CMD on the buffer that it draws on, and the pattern after them.
+unfoldable pub strokeIn : Engine → ℕ → ℕ → ℕ → List ℕ → Dashed
+strokeIn e width height n l =
+    let a = pointOf (lineStart e) in
+    let b = pointOf (e .registers .xy1) in
+    let w = windowIn e width height in
+    cond (commandIn e .solid) (dashed (strokeOf width w (penIn e (e .registers .fore)) a b (e .visited) n l) (e .pattern))
+    (dashesOf width w (dashesIn e) a b (e .visited) n (dashed l (e .pattern)))
+
+-- An engine with n more pixels visited and the pattern at q: with more pixels left, and once none is left.
+abbrev pub movedTo : Engine → ℕ → Pattern → Engine
+movedTo e n q = record { «under_way» = true; visited = e .visited + n; registers = e .registers; pattern = q; last = e .last }
+
+abbrev pub finishedAt : Engine → Pattern → Engine
+finishedAt e q =
+    record { «under_way» = false; visited = 0; registers = e .registers; pattern = q; last = e .registers .xy1 }
+
+unfoldable pub movedBy : Engine → ℕ → Pattern → Engine
+movedBy e n q = cond (ltb n (countOf e - e .visited)) (movedTo e n q) (finishedAt e q)
+
+-- Whether n visits can be done at once: a command under way with that many pixels left, on buffers of width x height bytes.
+unfoldable pub canLeap : Engine → ℕ → ℕ → ℕ → ℕ → ℕ → Bool
+canLeap e n width height display virt =
+    e .«under_way»
+    && ltb 0 (countOf e - e .visited)
+    && leb n (countOf e - e .visited)
+    && eqb display (width * height)
+    && eqb virt (width * height)
+
+-- Row by row, and by a line's error term.
+unfoldable pub goesByRows : Engine → ℕ → ℕ → ℕ → ℕ → ℕ → Bool
+goesByRows e n width height display virt =
+    canLeap e n width height display virt && isBlit (commandIn e) && ltb (e .registers .key) 256
+
+unfoldable pub goesByStroke : Engine → ℕ → ℕ → ℕ → ℕ → ℕ → Bool
+goesByStroke e n width height display virt =
+    canLeap e n width height display virt
+    && isLine (commandIn e)
+    && ltb 0 (stepsOf (pointOf (lineStart e)) (pointOf (e .registers .xy1)))
+    && leb height 65536

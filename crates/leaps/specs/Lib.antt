@@ -1,0 +1,2 @@
+pub mod Leaps
+pub mod Stretches

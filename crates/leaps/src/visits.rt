@@ -1,0 +1,241 @@
+// Many pixels of one command visited at once: rows of a blit, the stroke of a line.
+ghost use mathlib.Core.Path.{_≡_};
+ghost use mathlib.Core.Bool.{true};
+ghost use Prim.Native.Nat.{_-_};
+ghost use lib.ListN.{length};
+ghost use Rattle.commands.specs.Steps.{scene, visitsOf};
+ghost use Rattle.strokes.specs.Strokes.{dashed};
+ghost use Rattle.leaps.specs.Leaps.{mixIn, paintOf, blitIn, penIn, strokeIn, movedBy, canLeap, goesByRows, goesByStroke};
+use blits::Blit;
+use blits::Paint;
+use blits::draw_blit;
+use commands::Engine;
+use commands::is_line;
+use entries::command_of;
+use entries::pattern_control_of;
+use geometry::line_steps;
+use geometry::window_of;
+use raster::Pen;
+use raster::Selectors;
+use registers::Pattern;
+use rows::Mix;
+use strokes::Dashes;
+use strokes::draw_dashes;
+use strokes::draw_line;
+
+fn mix(e: Engine) -> Mix
+    ensures { λ r. ⌜ r ≡ mixIn e ⌝ }
+{
+    let g = e.registers;
+    let c = command_of(g.cmd);
+    Mix {
+        selectors: Selectors::new(c.code, (g.mask % 256) as u8),
+        keyed: c.key,
+        key: (g.key % 256) as u8,
+    }
+}
+
+// The pen that draws a value.
+fn pen(e: Engine, value: u32) -> Pen
+    ensures { λ r. ⌜ r ≡ penIn e value ⌝ }
+{
+    let g = e.registers;
+    let c = command_of(g.cmd);
+    Pen::new(c.code, (value % 256) as u8, (g.mask % 256) as u8)
+}
+
+// What the blit in CMD draws with.
+fn paint(e: Engine) -> Paint
+    ensures { λ r. ⌜ r ≡ paintOf e ⌝ }
+{
+    let g = e.registers;
+    let c = command_of(g.cmd);
+    if c.solid {
+        return Paint::Solid(pen(e, g.fore));
+    }
+    let mix = mix(e);
+    if c.to_virtual {
+        if c.from_virtual {
+            return Paint::Moved(mix);
+        }
+        return Paint::Copied(mix);
+    }
+    if c.from_virtual {
+        return Paint::Copied(mix);
+    }
+    Paint::Moved(mix)
+}
+
+// The blit in CMD, on buffers of width x height pixels.
+fn blit(e: Engine, width: u32, height: u32) -> Blit
+    ensures { λ r. ⌜ r ≡ blitIn e width height ⌝ }
+{
+    let g = e.registers;
+    let c = command_of(g.cmd);
+    Blit {
+        width,
+        height,
+        window: window_of(width, height, c.clip, g.clptl, g.clpbr),
+        from: g.xy0,
+        to: g.xy1,
+        size: g.xy2,
+        direction: g.xy3,
+        paint: paint(e),
+    }
+}
+
+// With n more pixels visited and the pattern at p.
+fn moved_by(e: Engine, n: usize, p: Pattern) -> Engine
+    ensures { λ r. ⌜ r ≡ movedBy e n p ⌝ }
+{
+    let g = e.registers;
+    let count = e.count();
+    if n < less(count, e.visited as usize) {
+        return Engine {
+            under_way: true,
+            visited: e.visited + n as u32,
+            registers: g,
+            pattern: p,
+            last: e.last,
+        };
+    }
+    Engine {
+        under_way: false,
+        visited: 0,
+        registers: g,
+        pattern: p,
+        last: g.xy1,
+    }
+}
+
+// a - b, or 0.
+fn less(a: usize, b: usize) -> usize
+    ensures { λ r. ⌜ r ≡ a - b ⌝ }
+{
+    if a <= b { 0 } else { a - b }
+}
+
+// Whether n pixels, no more than are left, can be visited at once on these buffers.
+fn can_leap(e: Engine, n: usize, width: u32, height: u32, display: usize, virt: usize) -> bool
+    ensures { λ r. ⌜ r ≡ canLeap e n width height display virt ⌝ }
+{
+    let area = (width as usize) * (height as usize);
+    let left = less(e.count(), e.visited as usize);
+    e.under_way & (0 < left) & (n <= left) & (display == area) & (virt == area)
+}
+
+// n pixels of a blit visited, row by row.
+fn visit_rows(
+    e: Engine,
+    n: usize,
+    width: u32,
+    height: u32,
+    display: &mut [u8],
+    virt: &mut [u8],
+) -> Engine
+    requires { ⌜ goesByRows e n width height (length (now display)) (length (now virt)) ≡ true ⌝ }
+    ensures { λ r. ⌜ scene r (now (display .exit)) (now (virt .exit)) ≡ visitsOf n width height (scene e (now (display .entry)) (now (virt .entry))) ⌝ }
+{
+    let g = e.registers;
+    let c = command_of(g.cmd);
+    let b = blit(e, width, height);
+    let after = moved_by(e, n, e.pattern);
+    if c.to_virtual {
+        draw_blit(b, e.visited as usize, n, virt, display);
+    } else {
+        draw_blit(b, e.visited as usize, n, display, virt);
+    }
+    after
+}
+
+// n pixels of the line in CMD, on the buffer that it draws on; the pattern after them.
+fn stroke(e: Engine, n: usize, width: u32, height: u32, buffer: &mut [u8]) -> Pattern
+    ensures { λ r. ⌜ dashed (now (buffer .exit)) r ≡ strokeIn e width height n (now (buffer .entry)) ⌝ }
+{
+    let g = e.registers;
+    let p = e.pattern;
+    let c = command_of(g.cmd);
+    let start = e.line_start();
+    let window = window_of(width, height, c.clip, g.clptl, g.clpbr);
+    let fore = pen(e, g.fore);
+    let first = e.visited as usize;
+    if c.solid {
+        draw_line(buffer, width, window, fore, start, g.xy1, first, n);
+        return p;
+    }
+    let dashes = Dashes {
+        lpat: g.lpat,
+        fore,
+        back: pen(e, g.back),
+        clear: c.trnsp,
+        control: pattern_control_of(g.pctrl),
+    };
+    draw_dashes(buffer, width, window, dashes, p, start, g.xy1, first, n)
+}
+
+// n pixels of a line visited, by its error term.
+fn visit_stroke(
+    e: Engine,
+    n: usize,
+    width: u32,
+    height: u32,
+    display: &mut [u8],
+    virt: &mut [u8],
+) -> Engine
+    requires { ⌜ goesByStroke e n width height (length (now display)) (length (now virt)) ≡ true ⌝ }
+    ensures { λ r. ⌜ scene r (now (display .exit)) (now (virt .exit)) ≡ visitsOf n width height (scene e (now (display .entry)) (now (virt .entry))) ⌝ }
+{
+    let g = e.registers;
+    let c = command_of(g.cmd);
+    if c.to_virtual {
+        let p = stroke(e, n, width, height, virt);
+        return moved_by(e, n, p);
+    }
+    let p = stroke(e, n, width, height, display);
+    moved_by(e, n, p)
+}
+
+// n pixels visited, one by one.
+fn visit_each(
+    start: Engine,
+    n: usize,
+    width: u32,
+    height: u32,
+    display: &mut [u8],
+    virt: &mut [u8],
+) -> Engine
+    ensures { λ r. ⌜ scene r (now (display .exit)) (now (virt .exit)) ≡ visitsOf n width height (scene start (now (display .entry)) (now (virt .entry))) ⌝ }
+{
+    let mut e = start;
+    let mut k: usize = 0;
+    while k < n {
+        e = e.visit(width, height, display, virt);
+        k += 1;
+    }
+    e
+}
+
+// n pixels visited.
+pub fn visit_many(
+    e: Engine,
+    n: usize,
+    width: u32,
+    height: u32,
+    display: &mut [u8],
+    virt: &mut [u8],
+) -> Engine
+    ensures { λ r. ⌜ scene r (now (display .exit)) (now (virt .exit)) ≡ visitsOf n width height (scene e (now (display .entry)) (now (virt .entry))) ⌝ }
+{
+    let g = e.registers;
+    let c = command_of(g.cmd);
+    let leaps = can_leap(e, n, width, height, display.len(), virt.len());
+    if leaps & (c.opcode == 1) & (g.key < 256) {
+        return visit_rows(e, n, width, height, display, virt);
+    }
+    let line = is_line(c);
+    let steps = line_steps(e.line_start(), g.xy1);
+    if leaps & line & (0 < steps) & (height <= 65536) {
+        return visit_stroke(e, n, width, height, display, virt);
+    }
+    visit_each(e, n, width, height, display, virt)
+}

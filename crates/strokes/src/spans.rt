@@ -1,0 +1,112 @@
+// The pixels of a line that a window lets through: one stretch, found by divisions.
+ghost use mathlib.Core.Path.{_≡_};
+ghost use Prim.Native.Nat.{_+_, _-_, _≤_, _<_, min, max};
+ghost use Rattle.geometry.specs.Coordinates.{pointOf};
+ghost use Rattle.geometry.specs.Clip.{inWindow};
+ghost use Rattle.geometry.specs.Line.{distance, stepsOf};
+ghost use Rattle.strokes.specs.Spans.{Counts, Below, AtLeast, Spans, Seen};
+use geometry::Point;
+use geometry::Window;
+use geometry::line_steps;
+use geometry::point_of;
+
+// Pixels of a line by their numbers, from `start` to the one before `end`.
+pub struct Span {
+    pub start: usize,
+    pub end: usize,
+}
+
+// How many pixels have gone at most 2 n m + half along an axis, of which each goes 2 d; the major axis needs no division.
+fn count(n: usize, d: usize, m: usize, half: usize) -> usize
+    requires { ⌜ (0 < d) × (d ≤ n) × (n < 65536) × (m < 131072) × (half < n + n) ⌝ }
+    ensures { λ r. ⌜ Counts n d m half r ⌝ }
+{
+    if d == n {
+        return m + 1;
+    }
+    (2 * (n * m) + half) / (2 * d) + 1
+}
+
+// How many pixels lie below c, on an axis that goes up from a to b.
+fn below(n: usize, a: usize, b: usize, c: usize) -> usize
+    requires { ⌜ (0 < n) × (n < 65536) × (a ≤ b) × (b < 131072) × (distance a b ≤ n) ⌝ }
+    ensures { λ r. ⌜ Below n a b c r ⌝ }
+{
+    if c <= a {
+        return 0;
+    }
+    if b < c {
+        return n + 1;
+    }
+    count(n, b - a, c - a - 1, n)
+}
+
+// How many pixels lie at or above c, on an axis that goes down from a to b.
+fn at_least(n: usize, a: usize, b: usize, c: usize) -> usize
+    requires { ⌜ (0 < n) × (n < 65536) × (b ≤ a) × (a < 131072) × (distance a b ≤ n) ⌝ }
+    ensures { λ r. ⌜ AtLeast n a b c r ⌝ }
+{
+    if a < c {
+        return 0;
+    }
+    if c <= b {
+        return n + 1;
+    }
+    count(n, a - b, a - c, n - 1)
+}
+
+// The pixels whose coordinate is at least `low` and below `high`.
+fn span_of(n: usize, a: usize, b: usize, low: usize, high: usize) -> Span
+    requires { ⌜ (0 < n) × (n < 65536) × (a < 131072) × (b < 131072) × (distance a b ≤ n) ⌝ }
+    ensures { λ r. ⌜ Spans n a b low high r ⌝ }
+{
+    if a <= b {
+        let start = below(n, a, b, low);
+        let end = below(n, a, b, high);
+        return Span { start, end };
+    }
+    let start = at_least(n, a, b, high);
+    let end = at_least(n, a, b, low);
+    Span { start, end }
+}
+
+fn larger(a: usize, b: usize) -> usize
+    ensures { λ r. ⌜ r ≡ max a b ⌝ }
+{
+    if a <= b { b } else { a }
+}
+
+fn smaller(a: usize, b: usize) -> usize
+    ensures { λ r. ⌜ r ≡ min a b ⌝ }
+{
+    if a <= b { a } else { b }
+}
+
+// Whether a window lets a point through.
+fn shown(w: Window, p: Point) -> bool
+    ensures { λ r. ⌜ r ≡ inWindow w p ⌝ }
+{
+    (w.left <= p.x) & (p.x < w.right) & (w.top <= p.y) & (p.y < w.bottom)
+}
+
+// Of n pixels of a line from pixel `first` on, those that a window lets through.
+pub(crate) fn seen_of(w: Window, from: u32, to: u32, first: usize, n: usize) -> Span
+    requires { ⌜ (0 < stepsOf (pointOf from) (pointOf to)) × (first + n ≤ stepsOf (pointOf from) (pointOf to) + 1) ⌝ }
+    ensures { λ r. ⌜ Seen w (pointOf from) (pointOf to) first n r ⌝ }
+{
+    let a = point_of(from);
+    let b = point_of(to);
+    let last = first + n;
+    if shown(w, a) & shown(w, b) {
+        return Span {
+            start: first,
+            end: last,
+        };
+    }
+    let steps = line_steps(from, to);
+    let x = span_of(steps, a.x, b.x, w.left, w.right);
+    let y = span_of(steps, a.y, b.y, w.top, w.bottom);
+    let start = larger(larger(first, x.start), y.start);
+    let end = smaller(smaller(last, x.end), y.end);
+    Span { start, end }
+}
