@@ -17,6 +17,7 @@ use Rattle.blits.specs.declared.Blit.{Blit}
 use Rattle.blits.specs.declared.Paint.{Paint}
 use Rattle.blits.specs.declared.Paint.the-variants.{Solid, Copied, Moved}
 use Rattle.blits.specs.declared.Span.{Span}
+use Rattle.blits.specs.declared.Seen.{Seen}
 
 -- The new byte of a pixel whose source pixel is at `from` of the other buffer, or of the same as it stands.
 abbrev pub painted : Paint → List ℕ → List ℕ → ℕ → ℕ → ℕ
@@ -85,6 +86,9 @@ seenColumns b =
 unfoldable pub seenRows : Blit → Span
 seenRows b =
     seenSpan (reads (b .paint)) (bottomToTop (b .direction)) (pointOf (b .to) .y) (b .window .top) (b .window .bottom) (pointOf (b .from) .y) (b .height)
+
+abbrev pub seenOf : Blit → Seen
+seenOf b = record { columns = seenColumns b; rows = seenRows b }
 
 -- Those of n from `from` on.
 abbrev pub partOf : Span → ℕ → ℕ → Span

@@ -8,7 +8,7 @@ ghost use Rattle.geometry.specs.Coordinates.{origin};
 ghost use Rattle.geometry.specs.Blit.{widthOf, blitCount, away};
 ghost use Rattle.blits.specs.declared.Paint.the-variants.{Solid, Copied, Moved};
 ghost use Rattle.lemmas.specs.Turns.{inTurn};
-ghost use Rattle.blits.specs.Blits.{reads, visited, windowInside, blitFits, blitted, spanOf, seenSpan, seenColumns, seenRows, partOf, rowOf, rowAt, leftEdge, placeAt, boxOf, Fitting, RowFits, RowsFit, BoxFits, WholeRows};
+ghost use Rattle.blits.specs.Blits.{reads, visited, windowInside, blitFits, blitted, spanOf, seenSpan, seenOf, partOf, rowOf, rowAt, leftEdge, placeAt, boxOf, Fitting, RowFits, RowsFit, BoxFits, WholeRows};
 use geometry::ORIGIN;
 use geometry::Window;
 use geometry::blit_count;
@@ -43,6 +43,12 @@ pub struct Blit {
 pub struct Span {
     pub from: usize,
     pub past: usize,
+}
+
+// The columns and the rows of a blit that can be drawn.
+pub struct Seen {
+    pub columns: Span,
+    pub rows: Span,
 }
 
 // The j whose pixel, j from c on or back, is at lo <= x < hi.
@@ -81,7 +87,7 @@ fn smaller(a: usize, b: usize) -> usize
     if a <= b { a } else { b }
 }
 
-// The coordinate k pixels from c, on or back.
+// k from c, on or back; back no further than 0.
 fn along(back: bool, c: usize, k: usize) -> usize
     requires { ⌜ c + k < 18446744073709551616 ⌝ }
     ensures { λ r. ⌜ r ≡ away back c k ⌝ }
@@ -142,30 +148,20 @@ fn seen_span(reads: bool, back: bool, t: usize, lo: usize, hi: usize, s: usize, 
     target
 }
 
-// The columns that can be drawn.
-fn seen_columns(b: Blit) -> Span
-    ensures { λ r. ⌜ r ≡ seenColumns b ⌝ }
+// The columns and the rows that can be drawn.
+fn seen_of(b: Blit) -> Seen
+    ensures { λ r. ⌜ r ≡ seenOf b ⌝ }
 {
     let w = b.window;
     let paint = b.paint;
     let reads = reads_pixels(paint);
     let back = b.direction / 2 % 2 == 1;
-    let target = point_of(b.to);
-    let source = point_of(b.from);
-    seen_span(reads, back, target.x, w.left, w.right, source.x, b.width)
-}
-
-// The rows that can be drawn.
-fn seen_rows(b: Blit) -> Span
-    ensures { λ r. ⌜ r ≡ seenRows b ⌝ }
-{
-    let w = b.window;
-    let paint = b.paint;
-    let reads = reads_pixels(paint);
     let up = b.direction % 2 == 1;
     let target = point_of(b.to);
     let source = point_of(b.from);
-    seen_span(reads, up, target.y, w.top, w.bottom, source.y, b.height)
+    let columns = seen_span(reads, back, target.x, w.left, w.right, source.x, b.width);
+    let rows = seen_span(reads, up, target.y, w.top, w.bottom, source.y, b.height);
+    Seen { columns, rows }
 }
 
 // Those of n from `from` on that are seen.
@@ -284,7 +280,7 @@ fn paint_rows(
     }
 }
 
-// The columns and rows given, of a blit from corner to corner.
+// The columns `across` of the rows `down` of a blit from corner to corner.
 fn paint_box(
     paint: Paint,
     width: u32,
@@ -311,12 +307,10 @@ fn paint_box(
     }
     let target = place_at(to, width, direction, a, z, top);
     let source = place_at(from, width, direction, a, z, top);
-    let back = direction / 2 % 2 == 1;
-    let up = direction % 2 == 1;
     paint_rows(
         paint,
-        back,
-        up,
+        direction / 2 % 2 == 1,
+        direction % 2 == 1,
         width as usize,
         buffer,
         target,
@@ -330,20 +324,19 @@ fn paint_box(
 // m visits of one row from a column on.
 fn draw_row(
     b: Blit,
-    seen: Span,
-    down: Span,
+    seen: Seen,
     row: usize,
     column: usize,
     m: usize,
     buffer: &mut [u8],
     other: &[u8],
 )
-    requires { ⌜ RowFits b row column m (length (now other)) (length (now buffer)) × (seen ≡ seenColumns b) × (down ≡ seenRows b) ⌝ }
+    requires { ⌜ RowFits b row column m (length (now other)) (length (now buffer)) × (seen ≡ seenOf b) ⌝ }
     ensures { λ _. ⌜ now (buffer .exit) ≡ inTurn (λ i. visited b (now (other .entry)) (widthOf (b .size) * row + column + i)) m (now (buffer .entry)) ⌝ }
 {
     let paint = b.paint;
-    let columns = part(seen, column, m);
-    let one = part(down, row, 1);
+    let columns = part(seen.columns, column, m);
+    let one = part(seen.rows, row, 1);
     paint_box(
         paint,
         b.width,
@@ -358,16 +351,8 @@ fn draw_row(
 }
 
 // n visits from visit `first` on, row by row.
-fn draw_rows(
-    b: Blit,
-    seen: Span,
-    down: Span,
-    first: usize,
-    n: usize,
-    buffer: &mut [u8],
-    other: &[u8],
-)
-    requires { ⌜ (0 < n) × Fitting b first n (length (now other)) (length (now buffer)) × (seen ≡ seenColumns b) × (down ≡ seenRows b) ⌝ }
+fn draw_rows(b: Blit, seen: Seen, first: usize, n: usize, buffer: &mut [u8], other: &[u8])
+    requires { ⌜ (0 < n) × Fitting b first n (length (now other)) (length (now buffer)) × (seen ≡ seenOf b) ⌝ }
     ensures { λ _. ⌜ now (buffer .exit) ≡ inTurn (λ i. visited b (now (other .entry)) (first + i)) n (now (buffer .entry)) ⌝ }
 {
     let across = (b.size / 65536) as usize;
@@ -376,7 +361,7 @@ fn draw_rows(
     let mut k: usize = 0;
     while first + k < first + n {
         let m = smaller(n - k, across - column);
-        draw_row(b, seen, down, row, column, m, buffer, other);
+        draw_row(b, seen, row, column, m, buffer, other);
         k += m;
         row += 1;
         column = 0;
@@ -384,13 +369,13 @@ fn draw_rows(
 }
 
 // Whole rows from the first on, at once.
-fn draw_whole(b: Blit, seen: Span, down: Span, rows: usize, buffer: &mut [u8], other: &[u8])
-    requires { ⌜ (0 < widthOf (b .size)) × Fitting b 0 (widthOf (b .size) * rows) (length (now other)) (length (now buffer)) × (seen ≡ seenColumns b) × (down ≡ seenRows b) ⌝ }
+fn draw_whole(b: Blit, seen: Seen, rows: usize, buffer: &mut [u8], other: &[u8])
+    requires { ⌜ (0 < widthOf (b .size)) × Fitting b 0 (widthOf (b .size) * rows) (length (now other)) (length (now buffer)) × (seen ≡ seenOf b) ⌝ }
     ensures { λ _. ⌜ now (buffer .exit) ≡ inTurn (visited b (now (other .entry))) (widthOf (b .size) * rows) (now (buffer .entry)) ⌝ }
 {
     let paint = b.paint;
-    let columns = part(seen, 0, (b.size / 65536) as usize);
-    let lines = part(down, 0, rows);
+    let columns = part(seen.columns, 0, (b.size / 65536) as usize);
+    let lines = part(seen.rows, 0, rows);
     paint_box(
         paint,
         b.width,
@@ -404,7 +389,7 @@ fn draw_whole(b: Blit, seen: Span, down: Span, rows: usize, buffer: &mut [u8], o
     );
 }
 
-// How many whole rows n visits from visit `first` on start with; counted from the first visit alone.
+// How many whole rows n visits from visit `first` on start with; 0 where they do not start with the first visit.
 fn whole_rows(size: u32, first: usize, n: usize) -> usize
     requires { ⌜ (0 < widthOf size) × (first + n ≤ blitCount size) ⌝ }
     ensures { λ r. ⌜ WholeRows size first n r ⌝ }
@@ -423,15 +408,14 @@ fn draw_visits(b: Blit, first: usize, n: usize, buffer: &mut [u8], other: &[u8])
     requires { ⌜ (0 < n) × Fitting b first n (length (now other)) (length (now buffer)) ⌝ }
     ensures { λ _. ⌜ now (buffer .exit) ≡ inTurn (λ i. visited b (now (other .entry)) (first + i)) n (now (buffer .entry)) ⌝ }
 {
-    let seen = seen_columns(b);
-    let down = seen_rows(b);
+    let seen = seen_of(b);
     let rows = whole_rows(b.size, first, n);
     let done = (b.size / 65536) as usize * rows;
-    draw_whole(b, seen, down, rows, buffer, other);
+    draw_whole(b, seen, rows, buffer, other);
     if n == done {
         return;
     }
-    draw_rows(b, seen, down, first + done, n - done, buffer, other);
+    draw_rows(b, seen, first + done, n - done, buffer, other);
 }
 
 // Whether both buffers have the blit's size, with the window inside, and the blit so many visits.

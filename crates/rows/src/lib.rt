@@ -285,7 +285,7 @@ fn mix_long(buffer: &mut [u8], at: usize, source: &[u8], from: usize, n: usize, 
     copy_bytes(buffer, at + z, &last, 0, 32);
 }
 
-// Within one buffer the last pixels are drawn aside only where no visit reads what another wrote.
+// Within one buffer the pixels that were drawn aside are stored only where no visit reads what another wrote.
 fn move_long(buffer: &mut [u8], at: usize, from: usize, n: usize, mix: Mix)
     requires { ⌜ (32 ≤ n) × (at + n ≤ length (now buffer)) × (from + n ≤ length (now buffer)) × ((at ≤ from) ⊎ (from + 32 ≤ at)) ⌝ }
     ensures { λ _. ⌜ now (buffer .exit) ≡ moved (mixed mix) n (now (buffer .entry)) at from ⌝ }
@@ -317,6 +317,19 @@ fn move_long_back(buffer: &mut [u8], at: usize, from: usize, n: usize, mix: Mix)
     mix_within_back(buffer, at - k, from - k, n - k, mix);
 }
 
+// The same for 8 to 16 pixels: the first 8, and the last 8.
+fn draw_short(buffer: &mut [u8], at: usize, n: usize, pen: Pen)
+    requires { ⌜ (8 ≤ n) × (n ≤ 16) × (at + n ≤ length (now buffer)) ⌝ }
+    ensures { λ _. ⌜ now (buffer .exit) ≡ filled pen n (now (buffer .entry)) at ⌝ }
+{
+    let z = n - 8;
+    let mut last: [u8; 8] = [0; 8];
+    copy_bytes(&mut last, 0, buffer, at + z, 8);
+    draw_bytes(&mut last, 0, 8, pen);
+    draw_bytes(buffer, at, 8, pen);
+    copy_bytes(buffer, at + z, &last, 0, 8);
+}
+
 // A row that fits, with one pen.
 fn fill_pixels(buffer: &mut [u8], at: usize, n: usize, pen: Pen)
     requires { ⌜ at + n ≤ length (now buffer) ⌝ }
@@ -324,6 +337,14 @@ fn fill_pixels(buffer: &mut [u8], at: usize, n: usize, pen: Pen)
 {
     if (pen.keep == 0) & (8 <= n) {
         fill_plain(buffer, at, n, pen.flip);
+        return;
+    }
+    if n < 8 {
+        draw_bytes(buffer, at, n, pen);
+        return;
+    }
+    if n <= 16 {
+        draw_short(buffer, at, n, pen);
         return;
     }
     if n < 32 {
@@ -357,7 +378,11 @@ fn move_pixels(buffer: &mut [u8], at: usize, from: usize, n: usize, mix: Mix)
         move_plain(buffer, at, from, n);
         return;
     }
-    if is_clear(at, from, 32) & (32 <= n) {
+    if n < 32 {
+        mix_within(buffer, at, from, n, mix);
+        return;
+    }
+    if is_clear(at, from, 32) {
         move_long(buffer, at, from, n, mix);
         return;
     }
@@ -372,7 +397,11 @@ fn move_pixels_back(buffer: &mut [u8], at: usize, from: usize, n: usize, mix: Mi
         move_plain_back(buffer, at, from, n);
         return;
     }
-    if is_clear(from, at, 32) & (32 <= n) {
+    if n < 32 {
+        mix_within_back(buffer, at, from, n, mix);
+        return;
+    }
+    if is_clear(from, at, 32) {
         move_long_back(buffer, at, from, n, mix);
         return;
     }

@@ -13,7 +13,7 @@ use Rattle.lemmas.proofs.Booleans.{and-left, and-right}
 use Rattle.lemmas.proofs.Turns.{turn-agree}
 use Rattle.raster.specs.Selectors.{drawn}
 use Rattle.raster.specs.declared.Pen.{Pen}
-use Rattle.rows.specs.Rows.{sweep, filled, filledBack, filledRow}
+use Rattle.rows.specs.Rows.{sweep, filled, filledRow}
 use Rattle.rows.proofs.Fitting.{filled-row}
 use Rattle.rows.proofs.Orders.{fill-turned-at}
 use Rattle.strokes.specs.Cursors.{moved, cursorAfter, Places, mark, markAt}

@@ -8,15 +8,13 @@ use native.Mathlib.Nat.{mod-eq-of-lt}
 use lib.Bits.{bitAnd, xor-zero-r, xor-zero-l, and-zero-r, and-mask}
 use lib.ListN.{getD, set}
 use lib.Seq.{set-getD}
-use Rattle.lemmas.proofs.Booleans.{by-cases}
 use Rattle.raster.specs.Selectors.{drawn}
 use Rattle.raster.specs.declared.Pen.{Pen}
 use Rattle.geometry.specs.Clip.{inWindow, placeIn}
 use Rattle.geometry.specs.declared.Point.{Point}
 use Rattle.geometry.specs.declared.Window.{Window}
-use Rattle.registers.specs.Patterns.{patternBit, nextOf}
-use Rattle.registers.specs.declared.dashes.Pattern.{Pattern}
-use Rattle.strokes.specs.Strokes.{plotted, Dashed, dashed, dash}
+use Rattle.registers.specs.Patterns.{patternBit}
+use Rattle.strokes.specs.Strokes.{plotted, Dashed, dash}
 use Rattle.strokes.specs.Phases.{clearPen}
 use Rattle.strokes.specs.Cursors.{mark, dashMark}
 use Rattle.strokes.specs.declared.Dashes.{Dashes}
@@ -68,6 +66,3 @@ dash-mark-shown width w p d s h = rw h
 
 pub chosen-yes : {A : Type 0} (t : Bool) (a b c : A) → t ≡ true → c ≡ a → c ≡ cond t a b
 chosen-yes t a b c e f = rw e f
-
-pub chosen-no : {A : Type 0} (t : Bool) (a b c : A) → t ≡ false → c ≡ b → c ≡ cond t a b
-chosen-no t a b c e f = rw e f

@@ -24,7 +24,7 @@ pub struct Cursor {
     pub slack: usize,
 }
 
-// What a place moves by: ahead and back at each pixel, up and down where the growth leaves no slack.
+// What a place moves by: ahead and back at each pixel, up and down where the growth leaves no slack, which then gains `wrap`.
 pub struct Strides {
     pub growth: usize,
     pub wrap: usize,
@@ -52,9 +52,7 @@ impl Cursor {
             slack: self.slack + s.wrap,
         }
     }
-}
 
-impl Cursor {
     // The same, for a loop that is compiled twice: with a growth, and for lines along an axis.
     fn next_by_axis(self, s: Strides) -> Cursor
         requires { ⌜ Moves s self ⌝ }

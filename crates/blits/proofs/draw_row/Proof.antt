@@ -24,7 +24,7 @@ paint-box-requires c κs =
     let columns = rows .before in
     let start = columns .before .before .before in
     let s = start .args in
-    row-box-fits (s .b) (s .other .now) (s .row) (s .column) (s .m) _ (start .pre .0) _ _ (columns .part .ensures ∙ ap (λ p. partOf p (s .column) (s .m)) (start .pre .1)) (rows .part2 .ensures ∙ ap (λ p. partOf p (s .row) 1) (start .pre .2))
+    row-box-fits (s .b) (s .other .now) (s .row) (s .column) (s .m) _ (start .pre .0) _ _ (columns .part .ensures ∙ ap (λ seen. partOf (seen .columns) (s .column) (s .m)) (start .pre .1)) (rows .part2 .ensures ∙ ap (λ seen. partOf (seen .rows) (s .row) 1) (start .pre .1))
     (wide start) (high start)
 
 same-length : tie.Need-same-length
@@ -37,7 +37,7 @@ returns c =
     let columns = rows .before in
     let start = columns .before .before .before in
     let s = start .args in
-    row-box-visits (s .b) (s .other .now) (s .row) (s .column) (s .m) _ (start .pre .0) _ _ (columns .part .ensures ∙ ap (λ p. partOf p (s .column) (s .m)) (start .pre .1)) (rows .part2 .ensures ∙ ap (λ p. partOf p (s .row) 1) (start .pre .2))
+    row-box-visits (s .b) (s .other .now) (s .row) (s .column) (s .m) _ (start .pre .0) _ _ (columns .part .ensures ∙ ap (λ seen. partOf (seen .columns) (s .column) (s .m)) (start .pre .1)) (rows .part2 .ensures ∙ ap (λ seen. partOf (seen .rows) (s .row) 1) (start .pre .1))
     _ _ (done .paint-box .ensures)
 
 pub draw-row-spec : {M : Type 1} → statement M

@@ -6,26 +6,25 @@ use lib.ListN.{length}
 use Rattle.geometry.specs.Blit.{widthOf}
 use Rattle.geometry.proofs.Blits.{count-lt}
 use Rattle.lemmas.specs.Turns.{inTurn}
-use Rattle.blits.specs.Blits.{visited, seenColumns, seenRows, Fitting, RowFits}
+use Rattle.blits.specs.Blits.{visited, seenOf, Fitting, RowFits}
 use Rattle.lemmas.proofs.Turns.{turn-none}
 use Rattle.blits.proofs.Loops.{across-some, Stands, stands-first, stands-next, row-fits, visits-more, all-rows}
 use Rattle.blits.proofs.draw_rows.Statement.{statement}
 use Rattle.blits.proofs.draw_rows.Tie as tie
 
 abbrev Inv-loop : tie.InvT-loop
-Inv-loop b seen down first n buffer₀ other across row₀ column₀ k₀ buffer row column k =
+Inv-loop b seen first n buffer₀ other across row₀ column₀ k₀ buffer row column k =
     (k ≤ n)
     × (length buffer ≡ length buffer₀)
     × Fitting b first n (length other) (length buffer₀)
-    × (seen ≡ seenColumns b)
-    × (down ≡ seenRows b)
+    × (seen ≡ seenOf b)
     × (across ≡ widthOf (b .size))
     × (b .size < 4294967296)
     × (k < n → Stands (widthOf (b .size)) first k row column)
     × (buffer ≡ inTurn (λ i. visited b other (first + i)) k buffer₀)
 
 abbrev μ-loop : tie.MeasureT-loop
-μ-loop b seen down first n buffer₀ other across row₀ column₀ k₀ buffer row column k = n - k
+μ-loop b seen first n buffer₀ other across row₀ column₀ k₀ buffer row column k = n - k
 
 cast-across : tie.Need-cast-across Inv-loop μ-loop
 cast-across c = search needs
@@ -50,7 +49,6 @@ loop-holds c =
       refl,
       start .pre .1,
       start .pre .2,
-      start .pre .3,
       refl,
       search needs,
       (λ _. stands-first _ _ (some-columns c)),
@@ -58,15 +56,15 @@ loop-holds c =
     )
 
 add-loop : tie.Need-add-loop Inv-loop μ-loop
-add-loop c = omega (arith, c .loop .inv .0, c .loop .inv .2 .visits, count-lt _ (c .loop .inv .6))
+add-loop c = omega (arith, c .loop .inv .0, c .loop .inv .2 .visits, count-lt _ (c .loop .inv .5))
 
 add-loop-2 : tie.Need-add-loop-2 Inv-loop μ-loop
-add-loop-2 c = omega (arith, c .loop .inv .2 .visits, count-lt _ (c .loop .inv .6))
+add-loop-2 c = omega (arith, c .loop .inv .2 .visits, count-lt _ (c .loop .inv .5))
 
 stands : (c : tie.In-loop Inv-loop μ-loop) → let at = c .before in
     let s = at .before .before .before .before .args in
     Stands (widthOf (s .b .size)) (s .first) (at .loop .k) (at .loop .row) (at .loop .column)
-stands c = c .before .loop .inv .7 (omega arith)
+stands c = c .before .loop .inv .6 (omega arith)
 
 fits : (c : tie.After-smaller Inv-loop μ-loop) → let at = c .before .before in
     let s = at .before .before .before .before .args in
@@ -76,14 +74,14 @@ fits c =
     let at = in-it .before in
     let s = at .before .before .before .before .args in
     row-fits (s .b) (s .first) (s .n) (at .loop .k) (at .loop .row) (at .loop .column) (c .smaller .result) (length (s .other .now)) (length (s .buffer .now))
-    (at .loop .inv .6) (at .loop .inv .2) (omega arith) (stands in-it)
-    (c .smaller .ensures ∙ ap (λ w. min (s .n - at .loop .k) (w - at .loop .column)) (at .loop .inv .5))
+    (at .loop .inv .5) (at .loop .inv .2) (omega arith) (stands in-it)
+    (c .smaller .ensures ∙ ap (λ w. min (s .n - at .loop .k) (w - at .loop .column)) (at .loop .inv .4))
 
 sub-smaller : tie.Need-sub-smaller Inv-loop μ-loop
 sub-smaller c = omega arith
 
 sub-smaller-2 : tie.Need-sub-smaller-2 Inv-loop μ-loop
-sub-smaller-2 c = omega (arith, stands c .short, c .before .loop .inv .5)
+sub-smaller-2 c = omega (arith, stands c .short, c .before .loop .inv .4)
 
 smaller-requires : tie.Need-smaller-requires Inv-loop μ-loop
 smaller-requires c κs = search needs
@@ -95,14 +93,13 @@ draw-row-requires c κs =
       subst (λ own. RowFits (s .b) (at .loop .row) (at .loop .column) (c .before .smaller .result) (length (s .other .now)) own) (sym (at .loop .inv .1))
           (fits (c .before)),
       at .loop .inv .3,
-      at .loop .inv .4,
     )
 
 add-k : tie.Need-add-k Inv-loop μ-loop
 add-k c =
     let o = c .before .before .before .before in
     let at = o .before .before in
-    omega (arith, fits o .columns, at .loop .inv .0, at .loop .inv .2 .visits, count-lt _ (at .loop .inv .6), at .loop .inv .6)
+    omega (arith, fits o .columns, at .loop .inv .0, at .loop .inv .2 .visits, count-lt _ (at .loop .inv .5), at .loop .inv .5)
 
 add-row : tie.Need-add-row Inv-loop μ-loop
 add-row c = let o = c .before .before .before .before in omega (arith, fits o .row-small)
@@ -111,7 +108,7 @@ loop-less : tie.Need-loop-less Inv-loop μ-loop
 loop-less c =
     let o = c .before .before .before .before in
     let at = o .before .before in
-    omega (arith, o .smaller .ensures, at .loop .inv .5, stands (o .before) .short)
+    omega (arith, o .smaller .ensures, at .loop .inv .4, stands (o .before) .short)
 
 loop-again : tie.Need-loop-again Inv-loop μ-loop
 loop-again c =
@@ -119,16 +116,15 @@ loop-again c =
     let o = done .before .before in
     let at = o .before .before in
     let s = at .before .before .before .before .args in
-    let size = o .smaller .ensures ∙ ap (λ w. min (s .n - at .loop .k) (w - at .loop .column)) (at .loop .inv .5) in (
+    let size = o .smaller .ensures ∙ ap (λ w. min (s .n - at .loop .k) (w - at .loop .column)) (at .loop .inv .4) in (
       omega (arith, o .smaller .ensures, at .loop .inv .0),
-      done .draw-row .kept .1 .1 .1 .1 .1 .1 .0 ∙ at .loop .inv .1,
+      done .draw-row .kept .1 .1 .1 .1 .1 .0 ∙ at .loop .inv .1,
       at .loop .inv .2,
       at .loop .inv .3,
       at .loop .inv .4,
       at .loop .inv .5,
-      at .loop .inv .6,
       (λ h. stands-next _ _ _ _ _ _ _ size h (stands (o .before))),
-      visits-more _ _ _ _ _ _ _ _ _ (at .loop .inv .8) (stands (o .before) .here) (done .draw-row .ensures),
+      visits-more _ _ _ _ _ _ _ _ _ (at .loop .inv .7) (stands (o .before) .here) (done .draw-row .ensures),
     )
 
 same-length : tie.Need-same-length Inv-loop μ-loop
@@ -137,7 +133,7 @@ same-length c = c .before .loop .inv .1
 returns : tie.Need-returns Inv-loop μ-loop
 returns c =
     let at = c .before in
-    all-rows _ _ _ _ _ _ _ (at .loop .inv .8) (at .loop .inv .0) (omega arith)
+    all-rows _ _ _ _ _ _ _ (at .loop .inv .7) (at .loop .inv .0) (omega arith)
 
 pub draw-rows-spec : {M : Type 1} → statement M
 draw-rows-spec =

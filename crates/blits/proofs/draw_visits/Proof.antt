@@ -16,15 +16,12 @@ size-small c = search needs
 some-columns : (c : tie.Start) → 0 < widthOf (c .args .b .size)
 some-columns c = across-some _ _ _ _ _ (c .pre .1) (c .pre .0)
 
-seen-columns-requires : tie.Need-seen-columns-requires
-seen-columns-requires c κs = search needs
-
-seen-rows-requires : tie.Need-seen-rows-requires
-seen-rows-requires c κs = search needs
+seen-of-requires : tie.Need-seen-of-requires
+seen-of-requires c κs = search needs
 
 whole-rows-requires : tie.Need-whole-rows-requires
 whole-rows-requires c κs =
-    let start = c .before .before .before .before in
+    let start = c .before .before .before in
     (some-columns start, start .pre .1 .visits)
 
 cast-done : tie.Need-cast-done
@@ -36,12 +33,11 @@ mul-done c = omega (arith, c .before .whole-rows .ensures .fit)
 draw-whole-requires : tie.Need-draw-whole-requires
 draw-whole-requires c κs =
     let counted = c .before .before in
-    let rows = counted .before in
-    let start = rows .before .before .before .before in (
+    let seen = counted .before in
+    let start = seen .before .before .before in (
       some-columns start,
       whole-fits _ _ _ _ (counted .whole-rows .ensures) _ _ (start .pre .1),
-      rows .before .seen-columns .ensures,
-      rows .seen-rows .ensures,
+      seen .seen-of .ensures,
     )
 
 same-length : tie.Need-same-length
@@ -51,14 +47,14 @@ returns : tie.Need-returns
 returns c =
     let whole = c .before .before .before in
     let counted = whole .before .before .before in
-    let s = counted .before .before .before .before .before .args in
+    let s = counted .before .before .before .before .args in
     whole-first (s .b) (s .first) (s .n) _ (counted .whole-rows .ensures) (s .other .now) _ _ (whole .draw-whole .ensures)
     ∙ ap (λ n. inTurn (λ i. visited (s .b) (s .other .now) (s .first + i)) n (s .buffer .now)) (sym (c .if1 .taken))
 
 add-draw-rows : tie.Need-add-draw-rows
 add-draw-rows c =
     let counted = c .before .before .before .before .before .before in
-    let start = counted .before .before .before .before .before in
+    let start = counted .before .before .before .before in
     omega (arith, counted .whole-rows .ensures .fit, start .pre .1 .visits, count-lt (start .args .b .size) (size-small start))
 
 sub-draw-rows : tie.Need-sub-draw-rows
@@ -68,12 +64,11 @@ draw-rows-requires : tie.Need-draw-rows-requires
 draw-rows-requires c κs =
     let whole = c .before .before .before .before in
     let counted = whole .before .before .before in
-    let rows = counted .before in
-    let start = rows .before .before .before .before in (
+    let seen = counted .before in
+    let start = seen .before .before .before in (
       omega (arith, counted .whole-rows .ensures .fit),
-      rest-fits _ _ _ _ (counted .whole-rows .ensures) _ _ _ (whole .draw-whole .kept .1 .1 .1 .1 .0) (start .pre .1),
-      rows .before .seen-columns .ensures,
-      rows .seen-rows .ensures,
+      rest-fits _ _ _ _ (counted .whole-rows .ensures) _ _ _ (whole .draw-whole .kept .1 .1 .1 .0) (start .pre .1),
+      seen .seen-of .ensures,
     )
 
 same-length-2 : tie.Need-same-length-2
@@ -84,15 +79,14 @@ returns-2 c =
     let rest = c .before .before in
     let whole = rest .before .before .before .before .before in
     let counted = whole .before .before .before in
-    let s = counted .before .before .before .before .before .args in
+    let s = counted .before .before .before .before .args in
     and-rest (s .b) (s .first) (s .n) _ (counted .whole-rows .ensures) (s .other .now) _ _ _ (whole .draw-whole .ensures) (rest .draw-rows .ensures)
 
 pub draw-visits-spec : {M : Type 1} → statement M
 draw-visits-spec =
     tie.close
     (tie.spec
-    seen-columns-requires
-    seen-rows-requires
+    seen-of-requires
     whole-rows-requires
     cast-done
     mul-done

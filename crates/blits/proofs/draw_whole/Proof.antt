@@ -31,7 +31,7 @@ paint-box-requires c κs =
     let columns = rows .before in
     let start = columns .before .before .before .before in
     let s = start .args in
-    whole-box-fits (s .b) (s .other .now) (s .rows) _ (start .pre .0) (size-small start) (start .pre .1) _ _ (columns .part .ensures ∙ ap (λ p. partOf p 0 (widthOf (s .b .size))) (start .pre .2)) (rows .part2 .ensures ∙ ap (λ p. partOf p 0 (s .rows)) (start .pre .3))
+    whole-box-fits (s .b) (s .other .now) (s .rows) _ (start .pre .0) (size-small start) (start .pre .1) _ _ (columns .part .ensures ∙ ap (λ seen. partOf (seen .columns) 0 (widthOf (s .b .size))) (start .pre .2)) (rows .part2 .ensures ∙ ap (λ seen. partOf (seen .rows) 0 (s .rows)) (start .pre .2))
     (wide start) (high start)
 
 same-length : tie.Need-same-length
@@ -44,7 +44,7 @@ returns c =
     let columns = rows .before in
     let start = columns .before .before .before .before in
     let s = start .args in
-    whole-box-visits (s .b) (s .other .now) (s .rows) _ (start .pre .0) (size-small start) (start .pre .1) _ _ (columns .part .ensures ∙ ap (λ p. partOf p 0 (widthOf (s .b .size))) (start .pre .2)) (rows .part2 .ensures ∙ ap (λ p. partOf p 0 (s .rows)) (start .pre .3))
+    whole-box-visits (s .b) (s .other .now) (s .rows) _ (start .pre .0) (size-small start) (start .pre .1) _ _ (columns .part .ensures ∙ ap (λ seen. partOf (seen .columns) 0 (widthOf (s .b .size))) (start .pre .2)) (rows .part2 .ensures ∙ ap (λ seen. partOf (seen .rows) 0 (s .rows)) (start .pre .2))
     _ _ (done .paint-box .ensures)
 
 pub draw-whole-spec : {M : Type 1} → statement M

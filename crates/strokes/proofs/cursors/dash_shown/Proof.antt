@@ -1,4 +1,3 @@
-use mathlib.Core.Path.{_∙_}
 use borrow.Author.Needs.{needs}
 use Rattle.strokes.proofs.Courses.{first-room, first-above, places, dash-marks-on}
 use Rattle.strokes.proofs.cursors.dash_shown.Statement.{statement}
