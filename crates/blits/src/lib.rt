@@ -6,6 +6,7 @@ ghost use mathlib.Core.List.{List};
 ghost use lib.ListN.{length};
 ghost use Rattle.geometry.specs.Coordinates.{origin};
 ghost use Rattle.geometry.specs.Blit.{widthOf, blitCount, away};
+ghost use Rattle.rows.specs.Rows.{filledRow};
 ghost use Rattle.blits.specs.declared.Paint.the-variants.{Solid, Copied, Moved};
 ghost use Rattle.lemmas.specs.Turns.{inTurn};
 ghost use Rattle.blits.specs.Blits.{reads, visited, windowInside, blitFits, blitted, spanOf, seenSpan, seenOf, partOf, rowOf, rowAt, leftEdge, placeAt, boxOf, Fitting, RowFits, RowsFit, BoxFits, WholeRows};
@@ -16,6 +17,7 @@ use geometry::point_of;
 use raster::Pen;
 use rows::Mix;
 use rows::copy_row;
+use rows::fill_narrow;
 use rows::fill_row;
 use rows::move_row;
 use rows::move_row_back;
@@ -187,6 +189,17 @@ fn move_pixels(back: bool, buffer: &mut [u8], at: usize, from: usize, n: usize, 
     move_row(buffer, at, from, n, mix);
 }
 
+// n pixels of a row with one pen.
+fn fill_one(buffer: &mut [u8], at: usize, n: usize, pen: Pen)
+    ensures { λ _. ⌜ now (buffer .exit) ≡ filledRow pen n (now (buffer .entry)) at ⌝ }
+{
+    if n <= 16 {
+        fill_narrow(buffer, at, n, pen);
+        return;
+    }
+    fill_row(buffer, at, n, pen);
+}
+
 // n pixels of each of so many rows, down or up from a row that begins at `at`.
 fn fill_rows(up: bool, width: usize, buffer: &mut [u8], at: usize, n: usize, rows: usize, pen: Pen)
     requires { ⌜ RowsFit up width at n rows (length (now buffer)) ⌝ }
@@ -195,7 +208,7 @@ fn fill_rows(up: bool, width: usize, buffer: &mut [u8], at: usize, n: usize, row
     let mut to = at;
     let mut k: usize = 0;
     while k < rows {
-        fill_row(buffer, to, n, pen);
+        fill_one(buffer, to, n, pen);
         to = along(up, to, width);
         k += 1;
     }

@@ -153,7 +153,7 @@ module _ (e : Engine) (width height : ℕ) (line : isLine (commandIn e) ≡ true
 pub record Goes (e : Engine) (n width height display virt : ℕ) : Type 0 where
   pub leaps : Leaps e n width height display virt
   pub line : isLine (commandIn e) ≡ true
-  pub long : 0 < stepsOf (pointOf (lineStart e)) (pointOf (e .registers .xy1))
+  pub long : 1 < countOf e
   pub tall : height ≤ 65536
 
 pub goes-of : (e : Engine) (n width height display virt : ℕ) → goesByStroke e n width height display virt ≡ true → Goes e n width height display virt
@@ -161,15 +161,14 @@ unfolding goesByStroke
 goes-of e n width height display virt h =
     let c1 = canLeap e n width height display virt in
     let c2 = isLine (commandIn e) in
-    let steps = stepsOf (pointOf (lineStart e)) (pointOf (e .registers .xy1)) in
-    let c3 = ltb 0 steps in
+    let c3 = ltb 1 (countOf e) in
     let c4 = leb height 65536 in
     let h3 = and-left (c1 && c2 && c3) c4 h in
     let h2 = and-left (c1 && c2) c3 h3 in
     record {
       leaps = leaps-of e n width height display virt (and-left c1 c2 h2);
       line = and-right c1 c2 h2;
-      long = ltb-true 0 steps (and-right (c1 && c2) c3 h3);
+      long = ltb-true 1 (countOf e) (and-right (c1 && c2) c3 h3);
       tall = leb-true height 65536 (and-right (c1 && c2 && c3) c4 h);
     }
 
@@ -203,7 +202,7 @@ stroke-fits e n width height display virt long g h =
     let b = pointOf (e .registers .xy1) in
     both
     (both (window-fits width height (commandIn e .clip) (e .registers .clptl) (e .registers .clpbr) long (g .tall) h)
-    (lt-ltb 0 (stepsOf a b) (g .long)))
+    (lt-ltb 0 (stepsOf a b) (omega (arith, g .long, count-is e (g .line), count-le a b (commandIn e .nlst)))))
     (le-leb (e .visited + n) (stepsOf a b + 1) (omega (arith, g .leaps .few, count-is e (g .line), count-le a b (commandIn e .nlst))))
 
 -- n visits, from what the line loops did on the buffer that is drawn on

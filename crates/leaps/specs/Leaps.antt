@@ -7,7 +7,6 @@ use Rattle.raster.specs.Selectors.{penOf, selectorsOf}
 use Rattle.raster.specs.declared.Pen.{Pen}
 use Rattle.geometry.specs.Coordinates.{pointOf}
 use Rattle.geometry.specs.Clip.{windowOf}
-use Rattle.geometry.specs.Line.{stepsOf}
 use Rattle.geometry.specs.declared.Window.{Window}
 use Rattle.rows.specs.declared.Mix.{Mix}
 use Rattle.blits.specs.declared.Blit.{Blit}
@@ -105,5 +104,5 @@ unfoldable pub goesByStroke : Engine → ℕ → ℕ → ℕ → ℕ → ℕ →
 goesByStroke e n width height display virt =
     canLeap e n width height display virt
     && isLine (commandIn e)
-    && ltb 0 (stepsOf (pointOf (lineStart e)) (pointOf (e .registers .xy1)))
+    && ltb 1 (countOf e)
     && leb height 65536

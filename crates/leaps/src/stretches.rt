@@ -2,10 +2,9 @@
 ghost use mathlib.Core.Path.{_≡_};
 ghost use mathlib.Core.Bool.{true};
 ghost use Prim.Native.Nat.{_-_, _<_, min, max};
-ghost use Rattle.commands.specs.Visits.{countOf};
 ghost use Rattle.commands.specs.Steps.{scene};
 ghost use Rattle.leaps.specs.Stretches.{nextIn, stretched, stretchOf, VisitsDone};
-use crate::visits::visit_many;
+use crate::visits::visit_counted;
 use commands::Engine;
 use entries::Decoded;
 use entries::Entry;
@@ -53,13 +52,15 @@ fn least(a: u64, b: u64) -> u64
     if a <= b { a } else { b }
 }
 
-// The pixels left of the command under way; where its count says none, the one that a step visits.
-fn pixels_left(e: Engine) -> u64
-    ensures { λ r. ⌜ r ≡ max 1 (countOf e - e .visited) ⌝ }
+// The pixels left of a command under way; where its count says none, the one that a step visits.
+fn pixels_left(count: usize, visited: u32) -> u64
+    ensures { λ r. ⌜ r ≡ max 1 (count - visited) ⌝ }
 {
-    let count = e.count() as u64;
-    let first = e.visited as u64;
-    if count <= first { 1 } else { count - first }
+    if count <= visited as usize {
+        1
+    } else {
+        (count - visited as usize) as u64
+    }
 }
 
 // The pixels of the command under way, as many as `most` allows.
@@ -74,10 +75,11 @@ fn visit_up_to(
     requires { ⌜ (e .«under_way» ≡ true) × (0 < most) ⌝ }
     ensures { λ r. ⌜ VisitsDone most width height (scene e (now (display .entry)) (now (virt .entry))) (r .steps) (scene (r .engine) (now (display .exit)) (now (virt .exit))) ⌝ }
 {
-    let left = pixels_left(e);
+    let count = e.count();
+    let left = pixels_left(count, e.visited);
     let n = least(most, left);
     Burst {
-        engine: visit_many(e, n as usize, width, height, display, virt),
+        engine: visit_counted(e, count, n as usize, width, height, display, virt),
         steps: n,
     }
 }

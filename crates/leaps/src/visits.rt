@@ -3,6 +3,7 @@ ghost use mathlib.Core.Path.{_≡_};
 ghost use mathlib.Core.Bool.{true};
 ghost use Prim.Native.Nat.{_-_};
 ghost use lib.ListN.{length};
+ghost use Rattle.commands.specs.Visits.{countOf};
 ghost use Rattle.commands.specs.Steps.{scene, visitsOf};
 ghost use Rattle.strokes.specs.Strokes.{dashed};
 ghost use Rattle.leaps.specs.Leaps.{mixIn, paintOf, blitIn, penIn, strokeIn, movedBy, canLeap, goesByRows, goesByStroke};
@@ -13,7 +14,6 @@ use commands::Engine;
 use commands::is_line;
 use entries::command_of;
 use entries::pattern_control_of;
-use geometry::line_steps;
 use geometry::window_of;
 use raster::Pen;
 use raster::Selectors;
@@ -84,12 +84,12 @@ fn blit(e: Engine, width: u32, height: u32) -> Blit
     }
 }
 
-// With n more pixels visited and the pattern at p.
-fn moved_by(e: Engine, n: usize, p: Pattern) -> Engine
+// With n more pixels visited, of `count`, and the pattern at p.
+fn moved_by(e: Engine, count: usize, n: usize, p: Pattern) -> Engine
+    requires { ⌜ count ≡ countOf e ⌝ }
     ensures { λ r. ⌜ r ≡ movedBy e n p ⌝ }
 {
     let g = e.registers;
-    let count = e.count();
     if n < less(count, e.visited as usize) {
         return Engine {
             under_way: true,
@@ -115,31 +115,41 @@ fn less(a: usize, b: usize) -> usize
     if a <= b { 0 } else { a - b }
 }
 
-// Whether n pixels, no more than are left, can be visited at once on these buffers.
-fn can_leap(e: Engine, n: usize, width: u32, height: u32, display: usize, virt: usize) -> bool
+// Whether n pixels of `count`, no more than are left, can be visited at once on these buffers.
+fn can_leap(
+    e: Engine,
+    count: usize,
+    n: usize,
+    width: u32,
+    height: u32,
+    display: usize,
+    virt: usize,
+) -> bool
+    requires { ⌜ count ≡ countOf e ⌝ }
     ensures { λ r. ⌜ r ≡ canLeap e n width height display virt ⌝ }
 {
     let area = (width as usize) * (height as usize);
-    let left = less(e.count(), e.visited as usize);
+    let left = less(count, e.visited as usize);
     e.under_way & (0 < left) & (n <= left) & (display == area) & (virt == area)
 }
 
 // n pixels of a blit visited, row by row.
 fn visit_rows(
     e: Engine,
+    count: usize,
     n: usize,
     width: u32,
     height: u32,
     display: &mut [u8],
     virt: &mut [u8],
 ) -> Engine
-    requires { ⌜ goesByRows e n width height (length (now display)) (length (now virt)) ≡ true ⌝ }
+    requires { ⌜ (goesByRows e n width height (length (now display)) (length (now virt)) ≡ true) × (count ≡ countOf e) ⌝ }
     ensures { λ r. ⌜ scene r (now (display .exit)) (now (virt .exit)) ≡ visitsOf n width height (scene e (now (display .entry)) (now (virt .entry))) ⌝ }
 {
     let g = e.registers;
     let c = command_of(g.cmd);
     let b = blit(e, width, height);
-    let after = moved_by(e, n, e.pattern);
+    let after = moved_by(e, count, n, e.pattern);
     if c.to_virtual {
         draw_blit(b, e.visited as usize, n, virt, display);
     } else {
@@ -176,23 +186,24 @@ fn stroke(e: Engine, n: usize, width: u32, height: u32, buffer: &mut [u8]) -> Pa
 // n pixels of a line visited, by its error term.
 fn visit_stroke(
     e: Engine,
+    count: usize,
     n: usize,
     width: u32,
     height: u32,
     display: &mut [u8],
     virt: &mut [u8],
 ) -> Engine
-    requires { ⌜ goesByStroke e n width height (length (now display)) (length (now virt)) ≡ true ⌝ }
+    requires { ⌜ (goesByStroke e n width height (length (now display)) (length (now virt)) ≡ true) × (count ≡ countOf e) ⌝ }
     ensures { λ r. ⌜ scene r (now (display .exit)) (now (virt .exit)) ≡ visitsOf n width height (scene e (now (display .entry)) (now (virt .entry))) ⌝ }
 {
     let g = e.registers;
     let c = command_of(g.cmd);
     if c.to_virtual {
         let p = stroke(e, n, width, height, virt);
-        return moved_by(e, n, p);
+        return moved_by(e, count, n, p);
     }
     let p = stroke(e, n, width, height, display);
-    moved_by(e, n, p)
+    moved_by(e, count, n, p)
 }
 
 // n pixels visited, one by one.
@@ -215,6 +226,32 @@ fn visit_each(
     e
 }
 
+// n pixels visited, of a command that visits `count`.
+pub(crate) fn visit_counted(
+    e: Engine,
+    count: usize,
+    n: usize,
+    width: u32,
+    height: u32,
+    display: &mut [u8],
+    virt: &mut [u8],
+) -> Engine
+    requires { ⌜ count ≡ countOf e ⌝ }
+    ensures { λ r. ⌜ scene r (now (display .exit)) (now (virt .exit)) ≡ visitsOf n width height (scene e (now (display .entry)) (now (virt .entry))) ⌝ }
+{
+    let g = e.registers;
+    let c = command_of(g.cmd);
+    let leaps = can_leap(e, count, n, width, height, display.len(), virt.len());
+    if leaps & (c.opcode == 1) & (g.key < 256) {
+        return visit_rows(e, count, n, width, height, display, virt);
+    }
+    let line = is_line(c);
+    if leaps & line & (1 < count) & (height <= 65536) {
+        return visit_stroke(e, count, n, width, height, display, virt);
+    }
+    visit_each(e, n, width, height, display, virt)
+}
+
 // n pixels visited.
 pub fn visit_many(
     e: Engine,
@@ -226,16 +263,5 @@ pub fn visit_many(
 ) -> Engine
     ensures { λ r. ⌜ scene r (now (display .exit)) (now (virt .exit)) ≡ visitsOf n width height (scene e (now (display .entry)) (now (virt .entry))) ⌝ }
 {
-    let g = e.registers;
-    let c = command_of(g.cmd);
-    let leaps = can_leap(e, n, width, height, display.len(), virt.len());
-    if leaps & (c.opcode == 1) & (g.key < 256) {
-        return visit_rows(e, n, width, height, display, virt);
-    }
-    let line = is_line(c);
-    let steps = line_steps(e.line_start(), g.xy1);
-    if leaps & line & (0 < steps) & (height <= 65536) {
-        return visit_stroke(e, n, width, height, display, virt);
-    }
-    visit_each(e, n, width, height, display, virt)
+    visit_counted(e, e.count(), n, width, height, display, virt)
 }

@@ -339,14 +339,6 @@ fn fill_pixels(buffer: &mut [u8], at: usize, n: usize, pen: Pen)
         fill_plain(buffer, at, n, pen.flip);
         return;
     }
-    if n < 8 {
-        draw_bytes(buffer, at, n, pen);
-        return;
-    }
-    if n <= 16 {
-        draw_short(buffer, at, n, pen);
-        return;
-    }
     if n < 32 {
         draw_bytes(buffer, at, n, pen);
         return;
@@ -416,6 +408,20 @@ pub fn fill_row(buffer: &mut [u8], at: usize, n: usize, pen: Pen)
         return;
     }
     fill_pixels(buffer, at, n, pen);
+}
+
+// The same for loops over narrow rows: what is done for 8 to 16 pixels is short enough to be compiled into the loop.
+pub fn fill_narrow(buffer: &mut [u8], at: usize, n: usize, pen: Pen)
+    ensures { λ _. ⌜ now (buffer .exit) ≡ filledRow pen n (now (buffer .entry)) at ⌝ }
+{
+    if (n < 8) | (16 < n) {
+        fill_row(buffer, at, n, pen);
+        return;
+    }
+    if !fits(buffer.len(), at, n) {
+        return;
+    }
+    draw_short(buffer, at, n, pen);
 }
 
 // n pixels from `at` on, from the pixels of another buffer from `from` on.

@@ -32,8 +32,8 @@ loop-holds c =
     let s = start .args in
     (omega arith, refl, start .pre, first-row (s .up) (s .width) (s .at), λ back other from. turn-none _ _)
 
-fill-row-requires : tie.Need-fill-row-requires Inv-loop μ-loop
-fill-row-requires c κs = search needs
+fill-one-requires : tie.Need-fill-one-requires Inv-loop μ-loop
+fill-one-requires c κs = search needs
 
 along-requires : tie.Need-along-requires Inv-loop μ-loop
 along-requires c κs = let at = c .before .before .before .before .before in row-far _ _ _ _ _ _ _ _ (at .loop .inv .2) (at .loop .inv .3) (omega arith)
@@ -50,13 +50,13 @@ loop-again c =
     let at = done .before .before .before in
     let s = at .before .before .args in (
       omega arith,
-      done .fill-row .kept .0 ∙ at .loop .inv .1,
+      done .fill-one .kept .0 ∙ at .loop .inv .1,
       at .loop .inv .2,
       next-row (s .up) (s .width) (s .at) _ _ _ (at .loop .inv .3) (c .along .ensures),
       λ back other from.
           row-more _ back (s .up) (s .width) other (s .at) from (s .n) (at .loop .k) _ _ _ _ _ (at .loop .inv .4 back other from) (at .loop .inv .3) refl
           (solid-row back _ other _ _ _ _ _
-          (rw (at .loop .inv .1) (row-inside _ _ _ _ _ _ _ _ (at .loop .inv .2) (at .loop .inv .3) (omega arith))) (done .fill-row .ensures)),
+          (rw (at .loop .inv .1) (row-inside _ _ _ _ _ _ _ _ (at .loop .inv .2) (at .loop .inv .3) (omega arith))) (done .fill-one .ensures)),
     )
 
 same-length : tie.Need-same-length Inv-loop μ-loop
@@ -72,7 +72,7 @@ fill-rows-spec =
     Inv-loop
     μ-loop
     loop-holds
-    fill-row-requires
+    fill-one-requires
     along-requires
     add-k
     loop-less

@@ -1,8 +1,13 @@
 use borrow.Author.Needs.{needs}
+use mathlib.Core.Path.{ap, _∙_}
+use Prim.Native.Nat.{_-_, max}
 use Rattle.commands.specs.Steps.{scene}
 use Rattle.leaps.proofs.Stretching.{visits-done}
 use Rattle.leaps.proofs.stretches.visit_up_to.Statement.{statement}
 use Rattle.leaps.proofs.stretches.visit_up_to.Tie as tie
+
+count-requires : tie.Need-count-requires
+count-requires c κs = search needs
 
 pixels-left-requires : tie.Need-pixels-left-requires
 pixels-left-requires c κs = search needs
@@ -10,8 +15,8 @@ pixels-left-requires c κs = search needs
 least-requires : tie.Need-least-requires
 least-requires c κs = search needs
 
-visit-many-requires : tie.Need-visit-many-requires
-visit-many-requires c κs = search needs
+visit-counted-requires : tie.Need-visit-counted-requires
+visit-counted-requires c κs = search needs
 
 same-length : tie.Need-same-length
 same-length c = search needs
@@ -24,18 +29,21 @@ returns c =
     let done = c .before .before .before .before in
     let few = done .before .before .before in
     let left = few .before in
-    let start = left .before .before .before in
+    let counted = left .before in
+    let start = counted .before .before .before in
     let s = start .args in
     visits-done (s .most) (s .width) (s .height) (scene (s .e) (s .display .now) (s .virt .now)) _ _ _ (start .pre .0) (start .pre .1)
-    (left .pixels-left .ensures) (few .least .ensures) (done .visit-many .ensures)
+    (left .pixels-left .ensures ∙ ap (λ n. max 1 (n - s .e .visited)) (counted .count .ensures)) (few .least .ensures)
+    (done .visit-counted .ensures)
 
 pub visit-up-to-spec : {M : Type 1} → statement M
 visit-up-to-spec =
     tie.close
     (tie.spec
+    count-requires
     pixels-left-requires
     least-requires
-    visit-many-requires
+    visit-counted-requires
     same-length
     same-length-2
     returns)

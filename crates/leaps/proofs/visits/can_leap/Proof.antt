@@ -8,9 +8,6 @@ use Rattle.leaps.proofs.visits.can_leap.Tie as tie
 mul-area : tie.Need-mul-area
 mul-area c = let s = c .args in omega (arith, product-fits (s .width) (s .height) (search needs) (search needs))
 
-count-requires : tie.Need-count-requires
-count-requires c κs = search needs
-
 cast-less : tie.Need-cast-less
 cast-less c = search needs
 
@@ -19,7 +16,7 @@ less-requires c κs = search needs
 
 returns : tie.Need-returns
 unfolding canLeap
-returns c = let low = c .before in rw (low .less .ensures, low .before .before .count .ensures)
+returns c = let low = c .before in rw (low .less .ensures, low .before .before .pre)
 
 pub can-leap-spec : {M : Type 1} → statement M
-can-leap-spec = tie.close (tie.spec mul-area count-requires cast-less less-requires returns)
+can-leap-spec = tie.close (tie.spec mul-area cast-less less-requires returns)

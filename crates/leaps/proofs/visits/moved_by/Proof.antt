@@ -6,9 +6,6 @@ use Rattle.leaps.proofs.Visiting.{moved-within, moved-over}
 use Rattle.leaps.proofs.visits.moved_by.Statement.{statement}
 use Rattle.leaps.proofs.visits.moved_by.Tie as tie
 
-count-requires : tie.Need-count-requires
-count-requires c κs = search needs
-
 cast-less : tie.Need-cast-less
 cast-less c = search needs
 
@@ -18,29 +15,24 @@ less-requires c κs = search needs
 cast-t9 : tie.Need-cast-t9
 cast-t9 c =
     let o = c .before in
-    let counted = o .before .before in
-    let start = counted .before .before in
-    omega (arith, c .if1 .taken, o .less .ensures, counted .count .ensures, pixels-lt (start .args .e) (omega (arith, start .good .0)))
+    let start = o .before .before .before in
+    omega (arith, c .if1 .taken, o .less .ensures, start .pre, pixels-lt (start .args .e) (omega (arith, start .good .0)))
 
 add-t10 : tie.Need-add-t10
 add-t10 c =
     let o = c .before .before in
-    let counted = o .before .before in
-    let start = counted .before .before in
-    omega (arith, c .before .if1 .taken, o .less .ensures, counted .count .ensures, pixels-lt (start .args .e) (omega (arith, start .good .0)))
+    let start = o .before .before .before in
+    omega (arith, c .before .if1 .taken, o .less .ensures, start .pre, pixels-lt (start .args .e) (omega (arith, start .good .0)))
 
 returns : tie.Need-returns
 returns c =
     let o = c .before .before in
-    let counted = o .before .before in
-    sym (moved-within _ _ _ (omega (arith, c .before .if1 .taken, o .less .ensures, counted .count .ensures)))
+    sym (moved-within _ _ _ (omega (arith, c .before .if1 .taken, o .less .ensures, o .before .before .before .pre)))
 
 returns-2 : tie.Need-returns-2
 returns-2 c =
     let o = c .before in
-    let counted = o .before .before in
-    sym (moved-over _ _ _ (omega (arith, c .if1 .left, o .less .ensures, counted .count .ensures)))
+    sym (moved-over _ _ _ (omega (arith, c .if1 .left, o .less .ensures, o .before .before .before .pre)))
 
 pub moved-by-spec : {M : Type 1} → statement M
-moved-by-spec =
-    tie.close (tie.spec count-requires cast-less less-requires cast-t9 add-t10 returns returns-2)
+moved-by-spec = tie.close (tie.spec cast-less less-requires cast-t9 add-t10 returns returns-2)

@@ -1,7 +1,7 @@
 use borrow.Author.Needs.{needs}
 use Rattle.leaps.specs.Leaps.{goesByRows, goesByStroke}
-use Rattle.leaps.proofs.visits.visit_many.Statement.{statement}
-use Rattle.leaps.proofs.visits.visit_many.Tie as tie
+use Rattle.leaps.proofs.visits.visit_counted.Statement.{statement}
+use Rattle.leaps.proofs.visits.visit_counted.Tie as tie
 
 command-of-requires : tie.Need-command-of-requires
 command-of-requires c κs = search needs
@@ -14,7 +14,7 @@ unfolding goesByRows
 visit-rows-requires c κs =
     let chosen = c .before .before in
     let o = chosen .before .before .before in
-    rw (o .can-leap .ensures, o .before .command-of .ensures) at (chosen .if1 .taken)
+    (rw (o .can-leap .ensures, o .before .command-of .ensures) at (chosen .if1 .taken), o .before .before .before .before .before .pre)
 
 same-length : tie.Need-same-length
 same-length c = search needs
@@ -28,21 +28,14 @@ returns c = search needs
 is-line-requires : tie.Need-is-line-requires
 is-line-requires c κs = search needs
 
-line-start-requires : tie.Need-line-start-requires
-line-start-requires c κs = search needs
-
-line-steps-requires : tie.Need-line-steps-requires
-line-steps-requires c κs = search needs
-
 visit-stroke-requires : tie.Need-visit-stroke-requires
 unfolding goesByStroke
 visit-stroke-requires c κs =
     let chosen = c .before .before in
-    let steps = chosen .before in
-    let line = steps .before .before in
+    let line = chosen .before in
     let o = line .before .before .before .before in
-    rw (steps .line-steps .ensures, steps .before .line-start .ensures, line .is-line .ensures, o .can-leap .ensures, o .before .command-of .ensures)
-    at (chosen .if2 .taken)
+    let start = o .before .before .before .before .before in
+    (rw (line .is-line .ensures, o .can-leap .ensures, o .before .command-of .ensures, start .pre) at (chosen .if2 .taken), start .pre)
 
 same-length-3 : tie.Need-same-length-3
 same-length-3 c = search needs
@@ -65,8 +58,8 @@ same-length-6 c = search needs
 returns-3 : tie.Need-returns-3
 returns-3 c = search needs
 
-pub visit-many-spec : {M : Type 1} → statement M
-visit-many-spec =
+pub visit-counted-spec : {M : Type 1} → statement M
+visit-counted-spec =
     tie.close
     (tie.spec
     command-of-requires
@@ -76,8 +69,6 @@ visit-many-spec =
     same-length-2
     returns
     is-line-requires
-    line-start-requires
-    line-steps-requires
     visit-stroke-requires
     same-length-3
     same-length-4
