@@ -98,6 +98,20 @@ filled-twice x n k b l m r at fits small enough part =
     parts (λ j d. x) (λ j d. x) (λ j d. x) n 0 k (n - b) b l m r at at (at + (n - b)) fits (omega arith) refl (omega arith) (omega arith)
     (λ i v c. ⊎-elim (λ x. (omega arith, omega arith)) (λ x. (omega arith, omega arith)) c) (λ j d. refl) (λ j d v. refl)
 
+-- source bytes: the first b pixels and the last b, which were kept aside in t
+pub copied-twice : (n b : ℕ) (l m w t r : List ℕ) (at : ℕ) (source : List ℕ) (from : ℕ) → at + n ≤ length l → b ≤ n → n ≤ b + b → b ≤ length w
+    → m ≡ copied (λ s d. s) b l at source from → t ≡ copied (λ s d. s) b w 0 source (from + (n - b))
+    → r ≡ copied (λ s d. s) b m (at + (n - b)) t 0 → r ≡ copied (λ s d. s) n l at source from
+copied-twice n b l m w t r at source from fits small enough room em et er =
+    parts (λ j d. getD source (from + j) 0) (λ j d. getD source (from + j) 0) (λ j d. getD t (0 + j) 0) n 0 b (n - b) b l m r at at (at + (n - b)) fits
+    (omega arith) refl (omega arith) (omega arith)
+    (λ i v c. ⊎-elim (λ x. (omega arith, omega arith)) (λ x. (omega arith, omega arith)) c)
+    (λ j d. let e : from + j ≡ from + (0 + j) = omega arith in rw e)
+    (λ j d v.
+    let e : from + (n - b) + j ≡ from + (n - b + j) = omega arith in
+    kept (λ j d. getD source (from + (n - b) + j) 0) b w t room et j v ∙ ap (λ k. getD source k 0) e)
+    em er
+
 -- k pixels of a row or more, and its last b aside
 module _ (n k z b : ℕ) (l m w s t r : List ℕ) (at : ℕ) (fits : at + n ≤ length l) (whole : z + b ≡ n) (enough : z ≤ k) (part : k ≤ n)
     (room : b ≤ length w) (es : s ≡ copied (λ s d. s) b w 0 l (at + z)) (er : r ≡ copied (λ s d. s) b m (at + z) t 0) where

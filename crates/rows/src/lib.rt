@@ -190,11 +190,42 @@ fn move_at_once(buffer: &mut [u8], at: usize, from: usize, n: usize)
     copy_bytes(buffer, at, &pixels, 0, n);
 }
 
+// Rows of 8 to 16 pixels: the first 8 and the last 8, all read before the first of them is written.
+fn copy_short(buffer: &mut [u8], at: usize, source: &[u8], from: usize, n: usize)
+    requires { ⌜ (8 ≤ n) × (n ≤ 16) × (at + n ≤ length (now buffer)) × (from + n ≤ length (now source)) ⌝ }
+    ensures { λ _. ⌜ now (buffer .exit) ≡ copied (λ s d. s) n (now (buffer .entry)) at (now (source .entry)) from ⌝ }
+{
+    let z = n - 8;
+    let mut head: [u8; 8] = [0; 8];
+    let mut last: [u8; 8] = [0; 8];
+    copy_bytes(&mut head, 0, source, from, 8);
+    copy_bytes(&mut last, 0, source, from + z, 8);
+    copy_bytes(buffer, at, &head, 0, 8);
+    copy_bytes(buffer, at + z, &last, 0, 8);
+}
+
+fn move_short(buffer: &mut [u8], at: usize, from: usize, n: usize)
+    requires { ⌜ (8 ≤ n) × (n ≤ 16) × (at + n ≤ length (now buffer)) × (from + n ≤ length (now buffer)) ⌝ }
+    ensures { λ _. ⌜ now (buffer .exit) ≡ copied (λ s d. s) n (now (buffer .entry)) at (now (buffer .entry)) from ⌝ }
+{
+    let z = n - 8;
+    let mut head: [u8; 8] = [0; 8];
+    let mut last: [u8; 8] = [0; 8];
+    copy_bytes(&mut head, 0, buffer, from, 8);
+    copy_bytes(&mut last, 0, buffer, from + z, 8);
+    copy_bytes(buffer, at, &head, 0, 8);
+    copy_bytes(buffer, at + z, &last, 0, 8);
+}
+
 // Rows of the source bytes as they are, at once where that is the same.
 fn copy_plain(buffer: &mut [u8], at: usize, source: &[u8], from: usize, n: usize)
     requires { ⌜ (at + n ≤ length (now buffer)) × (from + n ≤ length (now source)) ⌝ }
     ensures { λ _. ⌜ now (buffer .exit) ≡ copied (λ s d. s) n (now (buffer .entry)) at (now (source .entry)) from ⌝ }
 {
+    if (8 <= n) & (n <= 16) {
+        copy_short(buffer, at, source, from, n);
+        return;
+    }
     if n <= 4096 {
         copy_at_once(buffer, at, source, from, n);
         return;
@@ -206,7 +237,12 @@ fn move_plain(buffer: &mut [u8], at: usize, from: usize, n: usize)
     requires { ⌜ (at + n ≤ length (now buffer)) × (from + n ≤ length (now buffer)) ⌝ }
     ensures { λ _. ⌜ now (buffer .exit) ≡ moved (λ s d. s) n (now (buffer .entry)) at from ⌝ }
 {
-    if is_clear(at, from, n) & (n <= 4096) {
+    let clear = is_clear(at, from, n);
+    if clear & (8 <= n) & (n <= 16) {
+        move_short(buffer, at, from, n);
+        return;
+    }
+    if clear & (n <= 4096) {
         move_at_once(buffer, at, from, n);
         return;
     }
@@ -217,7 +253,12 @@ fn move_plain_back(buffer: &mut [u8], at: usize, from: usize, n: usize)
     requires { ⌜ (n ≤ at) × (n ≤ from) × (at ≤ length (now buffer)) × (from ≤ length (now buffer)) ⌝ }
     ensures { λ _. ⌜ now (buffer .exit) ≡ movedBack (λ s d. s) n (now (buffer .entry)) at from ⌝ }
 {
-    if is_clear(from, at, n) & (n <= 4096) {
+    let clear = is_clear(from, at, n);
+    if clear & (8 <= n) & (n <= 16) {
+        move_short(buffer, at - n, from - n, n);
+        return;
+    }
+    if clear & (n <= 4096) {
         move_at_once(buffer, at - n, from - n, n);
         return;
     }
