@@ -3,19 +3,19 @@
 use mathlib.Core.Path.{_≡_, refl, ap, ap₂, sym, _∙_}
 use mathlib.Core.Bool.{Bool, true, false, not, cond, _&&_, _||_, and-true}
 use mathlib.Core.List.{List}
-use Prim.Native.Nat.{ℕ, _+_, _%_, _<_}
+use Prim.Native.Nat.{ℕ, _%_, _<_}
 use native.Mathlib.Nat.{mod-eq-of-lt}
 use native.Mathlib.Omega.{arith}
-use lib.Dec.{eqb, ltb}
-use lib.ListN.{length, getD, set}
+use lib.Dec.{eqb}
+use lib.ListN.{getD, set}
 use lib.Seq.{set-getD}
 use Rattle.lemmas.proofs.Booleans.{by-cases}
 use Rattle.raster.specs.Raster.{newByte}
-use Rattle.raster.specs.Selectors.{penOf, drawn, selectorsOf, selected}
+use Rattle.raster.specs.Selectors.{drawn, selected}
 use Rattle.raster.proofs.Wide.{pen-as, selectors-as}
 use Rattle.geometry.specs.Coordinates.{pointOf}
-use Rattle.geometry.specs.Clip.{rectOf, inRect, inBuffer, placeOf, inWindow, placeIn}
-use Rattle.geometry.specs.Blit.{blitCount, blitPoint, blitVisit}
+use Rattle.geometry.specs.Clip.{inBuffer, placeOf, inWindow, placeIn}
+use Rattle.geometry.specs.Blit.{blitCount, blitPoint}
 use Rattle.geometry.specs.declared.Point.{Point}
 use Rattle.geometry.specs.declared.Place.{Place}
 use Rattle.geometry.specs.declared.Place.the-variants.{At, Outside}
@@ -23,12 +23,12 @@ use Rattle.geometry.specs.declared.Visit.the-variants.{At as VisitAt}
 use Rattle.geometry.proofs.Blits.{blit-at}
 use Rattle.geometry.proofs.Windows.{window-lets-through}
 use Rattle.rows.specs.Rows.{mixed}
-use Rattle.blits.specs.Blits.{painted, reads, targetAt, sourceAt, drawnAt, visited}
+use Rattle.blits.specs.Blits.{painted, reads, visited}
 use Rattle.blits.specs.declared.Paint.{Paint}
 use Rattle.blits.specs.declared.Paint.the-variants.{Solid, Copied, Moved}
 use Rattle.commands.specs.Visits.{commandIn, isBlit, countOf, visitAt, clippedOut, throughTo, targetOf}
 use Rattle.commands.specs.Sources.{keyed, readAt, copiedAt, copiedOf, sourceOf}
-use Rattle.commands.specs.Steps.{inked, inkedAt}
+use Rattle.commands.specs.Steps.{inked}
 use Rattle.leaps.specs.Leaps.{penIn, mixIn, paintOf, blitIn, windowIn}
 use Rattle.commands.specs.declared.Engine.{Engine}
 use Rattle.commands.specs.declared.Source.{Source}

@@ -5,12 +5,10 @@ use mathlib.Core.Bool.{Bool, true, false, cond}
 use mathlib.Core.List.{List}
 use mathlib.Core.Logic.{_⊎_, inl, inr}
 use Prim.Native.Nat.{ℕ, zero, suc, _+_, _-_, _≤_, _<_, min, max}
-use native.Mathlib.Numerals.{add-one}
 use native.Mathlib.Omega.{arith}
 use borrow.Author.Tests.{ltb-true, lt-ltb, le-ltb}
 use lib.Dec.{ltb}
 use lib.ListN.{length}
-use Rattle.lemmas.proofs.Booleans.{by-cases}
 use Rattle.geometry.specs.declared.Place.{Place}
 use Rattle.entries.specs.Layout.{decodedOf}
 use Rattle.entries.specs.Legality.{entryLegal}

@@ -17,7 +17,7 @@ use Rattle.board.specs.declared.record.Board.{Board}
 use Rattle.leaps.specs.declared.stretches.Next.{Next}
 use Rattle.leaps.specs.declared.stretches.Next.the-variants.{Idle, Visit, Take, Broken}
 use Rattle.pramolyt.specs.Image.{wordsOf, boardOf, flagsOk}
-use Rattle.pramolyt.specs.Exports.{ofImage, Posted, postedBy, postImage, Changed, changed, changedBy, storeImage, writeImage, Ran, ranBy, runImage, RefusedPost, RefusedStore, RefusedWrite, RefusedRun}
+use Rattle.pramolyt.specs.Exports.{ofImage, Posted, postImage, Changed, changed, changedBy, storeImage, writeImage, Ran, runImage, RefusedPost, RefusedStore, RefusedWrite, RefusedRun}
 use Rattle.pramolyt.proofs.RoundTrips.{encodes-decoded}
 
 -- ---- of a record, by the tests that a call passes
