@@ -415,6 +415,13 @@ static void draw_dashed(struct baseline *engine, struct stroke stroke, struct pe
     engine->phase = phase;
 }
 
+/* Hidden pixels move the pattern too. */
+static void pass_over(struct baseline *engine, int64_t pixels)
+{
+    if (!(engine->registers[CMD] & SOLID) && pixels > 0)
+        engine->phase = (engine->phase + (uint32_t)pixels) % engine->period;
+}
+
 static void start_pattern(struct baseline *engine)
 {
     const uint32_t pctrl = engine->registers[PCTRL];
@@ -430,8 +437,6 @@ static void draw_line(struct baseline *engine, struct stroke stroke)
         draw_solid(stroke, fore);
         return;
     }
-    if (engine->stale)
-        refresh_dots(engine);
     draw_dashed(engine, stroke, fore,
                 engine->registers[CMD] & TRNSP ? nothing : pen_of(m, engine->registers[BACK]));
 }
@@ -446,14 +451,20 @@ static uint64_t line(struct baseline *engine, uint8_t *const buffers[2])
     const int64_t last = cmd & NLST ? line.n - 1 : line.n;
     if (cmd & PRST)
         start_pattern(engine);
+    if (engine->stale && !(cmd & SOLID))
+        refresh_dots(engine);
     struct range seen = {0, last};
     if (is_empty(window))
         seen.last = -1;
     else if (!holds(window, a) || !holds(window, b))
         seen = visible_range(&line, window, last);
-    if (seen.first <= seen.last) {
+    if (seen.first > seen.last) {
+        pass_over(engine, last + 1);
+    } else {
         uint8_t *target = buffers[cmd & TO_VIRTUAL ? 1 : 0];
+        pass_over(engine, seen.first);
         draw_line(engine, stroke_of(&line, seen, target, engine->width));
+        pass_over(engine, last - seen.last);
     }
     return (uint64_t)last + 1;
 }

@@ -10,14 +10,13 @@ use borrow.Author.Tests.{ltb-true, ltb-false, eq-eqb}
 use lib.Dec.{eqb, ltb}
 use lib.ListN.{length}
 use Rattle.lemmas.proofs.Booleans.{by-cases, or-none-right}
-use Rattle.geometry.specs.declared.Place.{Place}
 use Rattle.entries.specs.Layout.{entryOf, decodedOf}
 use Rattle.entries.proofs.Decodes.{decoded-whole, decoded-none}
 use Rattle.entries.specs.declared.decoding.Entry.{Entry}
 use Rattle.entries.specs.declared.decoding.Decoded.the-variants.{Whole}
 use Rattle.registers.specs.Registers.{writtenOf}
 use Rattle.registers.specs.declared.file.Registers.{Registers}
-use Rattle.commands.specs.Visits.{commandIn, isBlit, isLine, countOf, targetOf}
+use Rattle.commands.specs.Visits.{commandIn, isBlit, isLine, countOf}
 use Rattle.commands.specs.Steps.{advancedOf, visitOf, takenOf, withWord}
 use Rattle.commands.specs.declared.Engine.{Engine}
 use Rattle.slots.specs.Slots.{endOf, emptySlot, cursorOn}
@@ -28,6 +27,7 @@ use Rattle.slots.specs.declared.record.Cursor.{Cursor}
 use Rattle.board.specs.declared.record.Board.{Board}
 use Rattle.leaps.specs.declared.stretches.Next.{Next}
 use Rattle.leaps.specs.declared.stretches.Next.the-variants.{Idle, Visit, Take, Broken}
+use Rattle.commands.proofs.Visits.{advanced-registers}
 use Rattle.commands.proofs.Triggers.{triggered-count}
 use Rattle.board.proofs.Chosen.{chosen}
 use Rattle.board.proofs.Keeps.{stays-well-formed}
@@ -75,45 +75,40 @@ one-fewer : (p q : ℕ) (g h : Registers) (a z : ℕ) (es : List Entry) → p �
 one-fewer p q g h a z es e f k = rw (e, f, k) (omega arith)
 
 -- a pixel visited
-module _ (e : Engine) (q : Place) where
-  advanced-registers : advancedOf e q .registers ≡ e .registers
-  unfolding advancedOf
-  advanced-registers = by-cases (ltb (e .visited + 1) (countOf e)) (λ t. rw t) (λ t. rw t)
-
-  advanced-xy1 : lastOnceDone (advancedOf e q) ≡ e .registers .xy1
+module _ (e : Engine) where
+  advanced-xy1 : lastOnceDone (advancedOf e) ≡ e .registers .xy1
   unfolding advancedOf
   advanced-xy1 = by-cases (ltb (e .visited + 1) (countOf e)) (λ t. rw t) (λ t. rw t)
 
-  advanced-count : e .visited < countOf e → countOf e - e .visited ≡ 1 + pixelsLeft (advancedOf e q)
+  advanced-count : e .visited < countOf e → countOf e - e .visited ≡ 1 + pixelsLeft (advancedOf e)
   unfolding advancedOf countOf
   advanced-count h =
       by-cases (ltb (e .visited + 1) (countOf e)) (λ t. rw t (omega (arith, ltb-true (e .visited + 1) (countOf e) t)))
       (λ t. rw t (omega (arith, ltb-false (e .visited + 1) (countOf e) t)))
 
-  advanced-pixels : e .«under_way» ≡ true → e .visited < countOf e → pixelsLeft e ≡ 1 + pixelsLeft (advancedOf e q)
+  advanced-pixels : e .«under_way» ≡ true → e .visited < countOf e → pixelsLeft e ≡ 1 + pixelsLeft (advancedOf e)
   advanced-pixels u h = ap (λ t. cond t (countOf e - e .visited) 0) u ∙ advanced-count h
 
-  advanced-last : e .«under_way» ≡ true → lastOnceDone (advancedOf e q) ≡ lastOnceDone e
+  advanced-last : e .«under_way» ≡ true → lastOnceDone (advancedOf e) ≡ lastOnceDone e
   advanced-last u = advanced-xy1 ∙ ap (λ t. cond t (e .registers .xy1) (e .last)) (sym u)
 
-visit-engine : (l : List ℕ) (b : Board) (q : Place) → Good b → b .engine .«under_way» ≡ true
-    → stepsLeft l b ≡ 1 + stepsLeft l (withEngine b (advancedOf (b .engine) q))
+visit-engine : (l : List ℕ) (b : Board) → Good b → b .engine .«under_way» ≡ true
+    → stepsLeft l b ≡ 1 + stepsLeft l (withEngine b (advancedOf (b .engine)))
 unfolding stepsLeft
-visit-engine l b q g u =
+visit-engine l b g u =
     let e = b .engine in
-    let f = advancedOf e q in
+    let f = advancedOf e in
     one-fewer (pixelsLeft e) (pixelsLeft f) (e .registers) (f .registers) (lastOnceDone e) (lastOnceDone f) (toCome l b)
-    (advanced-pixels e q u (pixels-of b g u))
-    (advanced-registers e q)
-    (advanced-last e q u)
+    (advanced-pixels e u (pixels-of b g u))
+    (advanced-registers e)
+    (advanced-last e u)
 
 visit-left : (l : List ℕ) (m : Machine) → Good (m .board) → m .board .engine .«under_way» ≡ true
     → stepsLeft l (m .board) ≡ 1 + stepsLeft l (visitedOf m .board)
 unfolding visitedOf visitOf
 visit-left l m g u =
     let b = m .board in
-    let q = targetOf (b .engine) (b .sizes .width) (b .sizes .height) (b .engine .visited) in
-    visit-engine l b q g u ∙ ap (λ n. 1 + n) (sym (settle-keeps l (withEngine b (advancedOf (b .engine) q))))
+    visit-engine l b g u ∙ ap (λ n. 1 + n) (sym (settle-keeps l (withEngine b (advancedOf (b .engine)))))
 
 -- an engine at rest has no pixels left
 rest-cost : (e : Engine) (es : List Entry) → e .«under_way» ≡ false

@@ -8,7 +8,6 @@ use borrow.Author.Tests.{ltb-true, eq-eqb}
 use lib.Dec.{eqb, ltb}
 use lib.ListN.{length}
 use Rattle.lemmas.proofs.Booleans.{by-cases, and-right, or-first, or-by, or-none-left, not-or}
-use Rattle.geometry.specs.declared.Place.{Place}
 use Rattle.entries.specs.Fields.{patternControlOf}
 use Rattle.entries.specs.Legality.{dataLegal, entryLegal}
 use Rattle.entries.specs.declared.decoding.Entry.{Entry}
@@ -16,8 +15,8 @@ use Rattle.registers.specs.Registers.{writtenOf, registersLegal}
 use Rattle.registers.specs.Patterns.{inRange}
 use Rattle.registers.proofs.Writes.{stays-legal, pctrl-legal}
 use Rattle.registers.proofs.Moves.{starts-in-range, stays-in-range}
-use Rattle.commands.specs.Visits.{commandIn, isLine, countOf, targetOf}
-use Rattle.commands.specs.Steps.{through, patternAfter, advancedOf, visitOf, setsPattern, patternSet, withWord, triggeredOf, takenOf}
+use Rattle.commands.specs.Visits.{commandIn, isLine, countOf}
+use Rattle.commands.specs.Steps.{inDashes, patternAfter, advancedOf, visitOf, setsPattern, patternSet, withWord, triggeredOf, takenOf}
 use Rattle.commands.specs.declared.Engine.{Engine}
 use Rattle.commands.proofs.Bounds.{count-same}
 use Rattle.commands.proofs.Visits.{keeps-lengths}
@@ -69,37 +68,36 @@ take-sound e x h s =
 
 -- ---- a pixel
 
-pattern-in-range : (e : Engine) (q : Place) → inRange (patternControlOf (e .registers .pctrl)) (e .pattern) ≡ true
-    → inRange (patternControlOf (e .registers .pctrl)) (patternAfter e q) ≡ true
+pattern-in-range : (e : Engine) → inRange (patternControlOf (e .registers .pctrl)) (e .pattern) ≡ true
+    → inRange (patternControlOf (e .registers .pctrl)) (patternAfter e) ≡ true
 unfolding patternAfter
-pattern-in-range e q h =
-    by-cases (isLine (commandIn e) && not (commandIn e .solid) && through q) (λ t. rw t (stays-in-range (e .registers .pctrl) (e .pattern) h))
-    (λ t. rw t h)
+pattern-in-range e h =
+    by-cases (inDashes (commandIn e)) (λ t. rw t (stays-in-range (e .registers .pctrl) (e .pattern) h)) (λ t. rw t h)
 
 -- an engine with a pixel more visited
-going-on : Engine → Place → Engine
-going-on e q =
+going-on : Engine → Engine
+going-on e =
     record {
       «under_way» = true;
       visited = e .visited + 1;
       registers = e .registers;
-      pattern = patternAfter e q;
+      pattern = patternAfter e;
       last = e .last;
     }
 
-advance-sound : (e : Engine) (q : Place) → Sound e → Sound (advancedOf e q)
+advance-sound : (e : Engine) → Sound e → Sound (advancedOf e)
 unfolding advancedOf going-on
-advance-sound e q s =
+advance-sound e s =
     by-cases (ltb (e .visited + 1) (countOf e))
     (λ t.
     rw t
     (record {
       legal = s .legal;
-      range = pattern-in-range e q (s .range);
+      range = pattern-in-range e (s .range);
       visited-zero = refl;
-      visited = ap (ltb (e .visited + 1)) (count-same (going-on e q) e refl refl) ∙ t;
+      visited = ap (ltb (e .visited + 1)) (count-same (going-on e) e refl refl) ∙ t;
     }))
-    (λ t. rw t (record { legal = s .legal; range = pattern-in-range e q (s .range); visited-zero = refl; visited = refl }))
+    (λ t. rw t (record { legal = s .legal; range = pattern-in-range e (s .range); visited-zero = refl; visited = refl }))
 
 -- ---- the end of a list
 
@@ -198,7 +196,7 @@ visit-good m g u =
     settle-good (withEngine b (visitedScene m .engine))
     (record {
       sizes = g .sizes;
-      sound = advance-sound e (targetOf e (b .sizes .width) (b .sizes .height) (e .visited)) (sound-of b g);
+      sound = advance-sound e (sound-of b g);
       taken = active-of b g u;
       pending-zeros = g .pending-zeros;
       active-span = g .active-span;

@@ -1,20 +1,20 @@
 -- The mark of a visit in its buffer, and the pattern after it.
 -- Assumes nothing.
 use mathlib.Core.Path.{_≡_, ap, ap₂, sym, _∙_}
-use mathlib.Core.Bool.{Bool, true, false, not, cond, _&&_, and-true, and-false}
+use mathlib.Core.Bool.{Bool, true, false, cond}
 use mathlib.Core.List.{List}
 use Prim.Native.Nat.{ℕ, _≤_}
 use lib.ListN.{length, getD, set}
 use lib.Seq.{set-out}
 use Rattle.raster.specs.Raster.{newByte}
 use Rattle.geometry.specs.declared.Place.{Place}
-use Rattle.geometry.specs.declared.Place.the-variants.{At, Outside}
+use Rattle.geometry.specs.declared.Place.the-variants.{At}
 use Rattle.entries.specs.Fields.{patternControlOf}
 use Rattle.entries.specs.declared.fields.Command.{Command}
 use Rattle.registers.specs.Patterns.{nextOf}
-use Rattle.commands.specs.Visits.{commandIn, isLine, targetOf}
+use Rattle.commands.specs.Visits.{commandIn, targetOf}
 use Rattle.commands.specs.Sources.{sourceOf}
-use Rattle.commands.specs.Steps.{scene, inked, inkedAt, patternAfter, advancedOf, visitOf}
+use Rattle.commands.specs.Steps.{scene, inked, inkedAt, inDashes, patternAfter, advancedOf, visitOf}
 use Rattle.commands.proofs.Tests.{flag-is}
 use Rattle.commands.specs.declared.Engine.{Engine}
 use Rattle.commands.specs.declared.Source.{Source}
@@ -35,23 +35,15 @@ module _ (e : Engine) (l : List ℕ) where
   ink-at c v i b p q =
       ap (set l i) (q ∙ ap (λ (c : Command). newByte (c .code) v (getD l i 0) (e .registers .mask)) p)
 
-pub pattern-outside : (e : Engine) (q : Place) → q ≡ Outside → e .pattern ≡ patternAfter e q
+pub pattern-by : (e : Engine) (b : Bool) → inDashes (commandIn e) ≡ b
+    → cond b (nextOf (patternControlOf (e .registers .pctrl)) (e .pattern)) (e .pattern) ≡ patternAfter e
 unfolding patternAfter
-pattern-outside e q p =
-    rw (p, and-false (isLine (commandIn e) && not (commandIn e .solid)))
-
-pub pattern-at : (e : Engine) (q : Place) (i : ℕ) → q ≡ At i → (b : Bool) → (isLine (commandIn e) && not (commandIn e .solid)) ≡ b
-    → cond b (nextOf (patternControlOf (e .registers .pctrl)) (e .pattern)) (e .pattern) ≡ patternAfter e q
-unfolding patternAfter
-pattern-at e q i p b h = rw (p, and-true (isLine (commandIn e) && not (commandIn e .solid)), h)
+pattern-by e b h = rw h
 
 -- a visit, by the buffer that it draws on
 module _ (width height : ℕ) (e : Engine) (d v m : List ℕ) (c : Command) (q : Place) (s : Source) (a : Engine) (p : c ≡ commandIn e)
-    (at : q ≡ targetOf e width height (e .visited)) (from : s ≡ sourceOf e width height (e .visited) d v) (after : a ≡ advancedOf e q) where
-  -- engine and drawn buffer, from the place and the source that were found
-  engine-is : a ≡ advancedOf e (targetOf e width height (e .visited))
-  engine-is = after ∙ ap (advancedOf e) at
-
+    (at : q ≡ targetOf e width height (e .visited)) (from : s ≡ sourceOf e width height (e .visited) d v) (after : a ≡ advancedOf e) where
+  -- the drawn buffer, from the place and the source that were found
   drawn-is : (l : List ℕ) → m ≡ inked e s q l
       → m ≡ inked e (sourceOf e width height (e .visited) d v) (targetOf e width height (e .visited)) l
   drawn-is l k = k ∙ ap₂ (λ s q. inked e s q l) from at
@@ -60,10 +52,10 @@ module _ (width height : ℕ) (e : Engine) (d v m : List ℕ) (c : Command) (q :
   unfolding visitOf
   visit-virtual h k =
       rw (flag-is e c p (λ c. c .«to_virtual») true h)
-      (λ i. record { engine = engine-is i; display = d; virt = drawn-is v k i })
+      (λ i. record { engine = after i; display = d; virt = drawn-is v k i })
 
   pub visit-display : c .«to_virtual» ≡ false → m ≡ inked e s q d → scene a m v ≡ visitOf width height (scene e d v)
   unfolding visitOf
   visit-display h k =
       rw (flag-is e c p (λ c. c .«to_virtual») false h)
-      (λ i. record { engine = engine-is i; display = drawn-is d k i; virt = v })
+      (λ i. record { engine = after i; display = drawn-is d k i; virt = v })

@@ -9,9 +9,10 @@ use Rattle.raster.specs.Raster.{newByte}
 use Rattle.geometry.specs.declared.Place.{Place}
 use Rattle.geometry.specs.declared.Place.the-variants.{At, Outside}
 use Rattle.entries.specs.Fields.{patternControlOf}
+use Rattle.entries.specs.declared.fields.Command.{Command}
 use Rattle.entries.specs.declared.decoding.Entry.{Entry}
 use Rattle.registers.specs.Registers.{freshRegisters, writtenOf}
-use Rattle.registers.specs.Patterns.{startOf, nextOf}
+use Rattle.registers.specs.Patterns.{startOf, nextOf, movesOf}
 use Rattle.registers.specs.declared.dashes.Pattern.{Pattern}
 use Rattle.commands.specs.Visits.{commandIn, isBlit, isLine, countOf, targetOf}
 use Rattle.commands.specs.Sources.{sourceOf}
@@ -48,35 +49,31 @@ abbrev pub inked : Engine → Source → Place → List ℕ → List ℕ
 inked e (Value v) place buffer = inkedAt e v place buffer
 inked e Nothing place buffer = buffer
 
--- The pattern after a visit: "It moves after each pixel that clip and buffer let through, drawn or transparent"; "SOLID
--- lines do not move it".
-abbrev pub through : Place → Bool
-through (At i) = true
-through Outside = false
+-- The pattern after a visit: "The pattern is to move after every pixel that a line without SOLID visits, drawn, clipped or
+-- off the buffer" (02, R-1).
+abbrev pub inDashes : Command → Bool
+inDashes c = isLine c && not (c .solid)
 
-unfoldable pub patternAfter : Engine → Place → Pattern
-patternAfter e place =
-    cond (isLine (commandIn e) && not (commandIn e .solid) && through place)
-    (nextOf (patternControlOf (e .registers .pctrl)) (e .pattern))
-    (e .pattern)
+unfoldable pub patternAfter : Engine → Pattern
+patternAfter e = cond (inDashes (commandIn e)) (nextOf (patternControlOf (e .registers .pctrl)) (e .pattern)) (e .pattern)
 
 -- One pixel fewer to visit; "the last point is XY1 of the latest finished command: it is set in the step that visits the
 -- command's last pixel".
-unfoldable pub advancedOf : Engine → Place → Engine
-advancedOf e place =
+unfoldable pub advancedOf : Engine → Engine
+advancedOf e =
     cond (ltb (e .visited + 1) (countOf e))
     (record {
       «under_way» = true;
       visited = e .visited + 1;
       registers = e .registers;
-      pattern = patternAfter e place;
+      pattern = patternAfter e;
       last = e .last;
     })
     (record {
       «under_way» = false;
       visited = 0;
       registers = e .registers;
-      pattern = patternAfter e place;
+      pattern = patternAfter e;
       last = e .registers .xy1;
     })
 
@@ -87,7 +84,7 @@ visitOf width height s =
     let place = targetOf e width height (e .visited) in
     let source = sourceOf e width height (e .visited) (s .display) (s .virt) in
     record {
-      engine = advancedOf e place;
+      engine = advancedOf e;
       display = cond (commandIn e .«to_virtual») (s .display) (inked e source place (s .display));
       virt = cond (commandIn e .«to_virtual») (inked e source place (s .virt)) (s .virt);
     }
@@ -140,10 +137,22 @@ KeepsLengths =
     (width height : ℕ) (s : Scene)
     → (length (visitOf width height s .display) ≡ length (s .display)) × (length (visitOf width height s .virt) ≡ length (s .virt))
 
--- A pixel that clip or buffer hides is visited and leaves buffers and pattern as they are.
+-- A pixel that clip or buffer hides is visited and leaves the buffers as they are.
 abbrev pub HiddenDrawsNothing : Type 0
 HiddenDrawsNothing =
     (width height : ℕ) (s : Scene) → targetOf (s .engine) width height (s .engine .visited) ≡ Outside
     → (visitOf width height s .display ≡ s .display)
     × (visitOf width height s .virt ≡ s .virt)
-    × (visitOf width height s .engine .pattern ≡ s .engine .pattern)
+
+-- Dashes do not creep: n visits of a line without SOLID move the pattern n times, whatever clip and buffers are.
+abbrev pub MovesByVisits : Type 0
+MovesByVisits =
+    (n width height : ℕ) (s : Scene) → inDashes (commandIn (s .engine)) ≡ true
+    → visitsOf n width height s .engine .pattern
+    ≡ movesOf (patternControlOf (s .engine .registers .pctrl)) n (s .engine .pattern)
+
+-- No visit of another command moves it.
+abbrev pub OthersMoveNothing : Type 0
+OthersMoveNothing =
+    (n width height : ℕ) (s : Scene) → inDashes (commandIn (s .engine)) ≡ false
+    → visitsOf n width height s .engine .pattern ≡ s .engine .pattern

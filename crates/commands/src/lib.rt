@@ -204,15 +204,12 @@ impl Engine {
     }
 
     // The pattern after a visit.
-    fn pattern_after(self, place: Place) -> Pattern
-        ensures { λ r. ⌜ r ≡ patternAfter self place ⌝ }
+    fn pattern_after(self) -> Pattern
+        ensures { λ r. ⌜ r ≡ patternAfter self ⌝ }
     {
         let g = self.registers;
         let p = self.pattern;
         let c = command_of(g.cmd);
-        let Place::At(_) = place else {
-            return p;
-        };
         if is_line(c) & !c.solid {
             return p.next(pattern_control_of(g.pctrl));
         }
@@ -220,11 +217,11 @@ impl Engine {
     }
 
     // With one more pixel visited.
-    fn advanced(self, place: Place) -> Engine
-        ensures { λ r. ⌜ r ≡ advancedOf self place ⌝ }
+    fn advanced(self) -> Engine
+        ensures { λ r. ⌜ r ≡ advancedOf self ⌝ }
     {
         let g = self.registers;
-        let p = self.pattern_after(place);
+        let p = self.pattern_after();
         let n = self.count();
         if (self.visited as usize) + 1 < n {
             return Engine {
@@ -253,7 +250,7 @@ impl Engine {
         let c = command_of(g.cmd);
         let place = self.target(width, height, k);
         let source = self.source(width, height, k, display, virt);
-        let after = self.advanced(place);
+        let after = self.advanced();
         if c.to_virtual {
             self.ink(source, place, virt);
         } else {

@@ -13,7 +13,6 @@ use Rattle.lemmas.specs.Turns.{inTurn}
 use Rattle.geometry.specs.Coordinates.{origin}
 use Rattle.geometry.specs.Clip.{rectOf, windowOf}
 use Rattle.geometry.specs.Blit.{blitCount}
-use Rattle.geometry.specs.declared.Place.{Place}
 use Rattle.blits.specs.declared.Paint.the-variants.{Solid, Copied, Moved}
 use Rattle.blits.specs.Blits.{visited, windowInside, blitFits, blitted}
 use Rattle.blits.proofs.Loops.{blit-in}
@@ -30,9 +29,9 @@ use Rattle.leaps.proofs.Blits.{count-is, marks-on}
 not-line : (c : Command) → isBlit c ≡ true → isLine c ≡ false
 not-line c h = ap (λ n. eqb n 2 || eqb n 5) (eqb-true (c .opcode) 1 h)
 
-pattern-stays : (e : Engine) (q : Place) → isBlit (commandIn e) ≡ true → patternAfter e q ≡ e .pattern
+pattern-stays : (e : Engine) → isBlit (commandIn e) ≡ true → patternAfter e ≡ e .pattern
 unfolding patternAfter
-pattern-stays e q h = rw (not-line (commandIn e) h)
+pattern-stays e h = rw (not-line (commandIn e) h)
 
 same-blit : (e : Engine) (k width height : ℕ) → blitIn (movedTo e k (e .pattern)) width height ≡ blitIn e width height
 unfolding paintOf
@@ -52,7 +51,7 @@ module _ (e : Engine) (width height : ℕ) (blit : isBlit (commandIn e) ≡ true
             let f = movedTo e k (e .pattern) in
             marks-on f width height (e .visited + k) blit (omega (arith, few, count-same f e refl refl)) small to (rowState k .buffer) other v
             ∙ ap (λ b. visited b other (e .visited + k) (rowState k .buffer)) (same-blit e k width height);
-        patterns = λ k few. pattern-stays (movedTo e k (e .pattern)) _ blit;
+        patterns = λ k few. pattern-stays (movedTo e k (e .pattern)) blit;
       }
 
 -- a window lies in its buffer

@@ -9,13 +9,12 @@ use native.Mathlib.Omega.{arith}
 use borrow.Author.Tests.{ltb-true, lt-ltb, le-ltb}
 use lib.Dec.{ltb}
 use lib.ListN.{length}
-use Rattle.geometry.specs.declared.Place.{Place}
 use Rattle.entries.specs.Layout.{decodedOf}
 use Rattle.entries.specs.Legality.{entryLegal}
 use Rattle.entries.specs.declared.decoding.Entry.{Entry}
 use Rattle.entries.specs.declared.decoding.Decoded.{Decoded}
 use Rattle.entries.specs.declared.decoding.Decoded.the-variants.{Whole, Nothing}
-use Rattle.commands.specs.Visits.{countOf, targetOf}
+use Rattle.commands.specs.Visits.{countOf}
 use Rattle.commands.specs.Steps.{Scene, scene, advancedOf, visitOf, visitsOf, takenOf}
 use Rattle.commands.specs.declared.Engine.{Engine}
 use Rattle.commands.proofs.Bounds.{count-same}
@@ -88,9 +87,9 @@ record On (e f : Engine) (k : ℕ) : Type 0 where
   registers-same : f .registers ≡ e .registers
   last-same : f .last ≡ e .last
 
-advance-on : (f : Engine) (q : Place) → f .visited + 1 < countOf f → On f (advancedOf f q) 1
+advance-on : (f : Engine) → f .visited + 1 < countOf f → On f (advancedOf f) 1
 unfolding advancedOf
-advance-on f q h = rw (lt-ltb (f .visited + 1) (countOf f) h) (record { under = refl; at = refl; registers-same = refl; last-same = refl })
+advance-on f h = rw (lt-ltb (f .visited + 1) (countOf f) h) (record { under = refl; at = refl; registers-same = refl; last-same = refl })
 
 visits-on : (width height : ℕ) (s : Scene) (k : ℕ) → s .engine .«under_way» ≡ true → s .engine .visited + k < countOf (s .engine)
     → On (s .engine) (visitsOf k width height s .engine) k
@@ -100,7 +99,7 @@ visits-on width height s (suc k) u h =
     let f = visitsOf k width height s .engine in
     let on = visits-on width height s k u (omega arith) in
     let same : countOf f ≡ countOf (s .engine) = count-same f (s .engine) (on .registers-same) (on .last-same) in
-    let next = advance-on f (targetOf f width height (f .visited)) (omega (arith, on .at, same)) in
+    let next = advance-on f (omega (arith, on .at, same)) in
     record {
       under = next .under;
       at = omega (arith, next .at, on .at);

@@ -19,15 +19,14 @@ use Rattle.geometry.specs.declared.Window.{Window}
 use Rattle.geometry.specs.declared.Place.the-variants.{At, Outside}
 use Rattle.geometry.specs.declared.Visit.the-variants.{At as VisitAt}
 use Rattle.geometry.proofs.Lines.{line-at, count-le}
-use Rattle.entries.specs.Fields.{patternControlOf}
 use Rattle.entries.specs.declared.fields.Command.{Command}
-use Rattle.registers.specs.Patterns.{patternBit, nextOf}
+use Rattle.registers.specs.Patterns.{patternBit}
 use Rattle.registers.specs.declared.dashes.Pattern.{Pattern}
 use Rattle.strokes.specs.Strokes.{plotted, pixelsOf, windowFits, strokeFits, strokeOf, Dashed, dashed, dash, dashPixels, dashesOf}
 use Rattle.strokes.proofs.Drawn.{stroke-fit, dashes-fit}
 use Rattle.commands.specs.Visits.{commandIn, isBlit, isLine, lineStart, countOf, visitAt, targetOf}
 use Rattle.commands.specs.Sources.{dashOf, sourceOf}
-use Rattle.commands.specs.Steps.{inked, through, patternAfter, visitsOf}
+use Rattle.commands.specs.Steps.{inked, patternAfter, visitsOf}
 use Rattle.commands.specs.declared.Engine.{Engine}
 use Rattle.commands.specs.declared.Source.the-variants.{Value, Nothing}
 use Rattle.leaps.specs.Leaps.{movedTo, movedBy, penIn, dashesIn, windowIn, strokeIn, canLeap, goesByStroke}
@@ -56,10 +55,6 @@ ink-plots e v width height p l =
     ink-value e v (inWindow w p) i l
     ∙ ap (λ x. cond (inWindow w p) (set l i x) l) (sym (pen-as (commandIn e .code) (e .registers .mask) (code-small e) v (getD l i 0)))
 
-lets-through : (t : Bool) (i : ℕ) → through (cond t (At i) Outside) ≡ t
-lets-through true i = refl
-lets-through false i = refl
-
 module _ (e : Engine) (width height : ℕ) (line : isLine (commandIn e) ≡ true) where
   abbrev point : ℕ → Point
   point k = linePoint (pointOf (lineStart e)) (pointOf (e .registers .xy1)) (e .visited + k)
@@ -87,7 +82,7 @@ module _ (e : Engine) (width height : ℕ) (line : isLine (commandIn e) ≡ true
     unfolding sourceOf
     solid-mark s d v l = rw s (ap (λ p. inked here (Value (e .registers .fore)) p l) place-is ∙ ink-plots here (e .registers .fore) width height (point k) l)
 
-    solid-pattern : commandIn e .solid ≡ true → patternAfter here (targetOf here width height (e .visited + k)) ≡ q
+    solid-pattern : commandIn e .solid ≡ true → patternAfter here ≡ q
     unfolding patternAfter
     solid-pattern s = rw (line, s)
 
@@ -114,11 +109,9 @@ module _ (e : Engine) (width height : ℕ) (line : isLine (commandIn e) ≡ true
         by false false = ink-plots here (e .registers .back) width height (point k) l
 
     dash-pattern : commandIn e .solid ≡ false → (l : List ℕ)
-        → patternAfter here (targetOf here width height (e .visited + k)) ≡ dash width window (dashesIn e) (point k) (dashed l q) .pattern
+        → patternAfter here ≡ dash width window (dashesIn e) (point k) (dashed l q) .pattern
     unfolding patternAfter dash
-    dash-pattern s l =
-        rw (line, s)
-        (ap (λ t. cond t (nextOf (patternControlOf (e .registers .pctrl)) q) q) (ap through place-is ∙ lets-through (inWindow window (point k)) (placeIn width (point k))))
+    dash-pattern s l = rw (line, s)
 
   -- the two kinds of strokes
   abbrev solidState : List ℕ → ℕ → Dashed

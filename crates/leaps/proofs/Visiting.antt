@@ -8,7 +8,6 @@ use native.Mathlib.Omega.{arith}
 use borrow.Author.Tests.{eqb-true, ltb-true, ltb-false, leb-true, lt-ltb, le-ltb}
 use lib.Dec.{eqb, ltb, leb}
 use Rattle.lemmas.proofs.Booleans.{by-cases, and-left, and-right}
-use Rattle.geometry.specs.declared.Place.{Place}
 use Rattle.registers.specs.declared.dashes.Pattern.{Pattern}
 use Rattle.strokes.specs.Strokes.{Dashed}
 use Rattle.commands.specs.Visits.{commandIn, countOf, targetOf}
@@ -25,16 +24,16 @@ sceneOn e to own other = scene e (cond to other own) (cond to own other)
 visit-on : (width height : ℕ) (f : Engine) (to : Bool) (own other : List ℕ) → commandIn f .«to_virtual» ≡ to →
     let at = targetOf f width height (f .visited) in
     let s = sourceOf f width height (f .visited) (cond to other own) (cond to own other) in
-    visitOf width height (sceneOn f to own other) ≡ sceneOn (advancedOf f at) to (inked f s at own) other
+    visitOf width height (sceneOn f to own other) ≡ sceneOn (advancedOf f) to (inked f s at own) other
 unfolding visitOf
 visit-on width height f true own other v =
     let at = targetOf f width height (f .visited) in
     let s = sourceOf f width height (f .visited) other own in
-    ap (λ t. scene (advancedOf f at) (cond t other (inked f s at other)) (cond t (inked f s at own) own)) v
+    ap (λ t. scene (advancedOf f) (cond t other (inked f s at other)) (cond t (inked f s at own) own)) v
 visit-on width height f false own other v =
     let at = targetOf f width height (f .visited) in
     let s = sourceOf f width height (f .visited) own other in
-    ap (λ t. scene (advancedOf f at) (cond t own (inked f s at own)) (cond t (inked f s at other) other)) v
+    ap (λ t. scene (advancedOf f) (cond t own (inked f s at own)) (cond t (inked f s at other) other)) v
 
 same-test : (v m c : ℕ) → v + m < c → ltb (v + m + 1) c ≡ ltb (suc m) (c - v)
 same-test v m c h =
@@ -53,12 +52,12 @@ module _ (e : Engine) where
   moved-over m q h =
       ap (λ t. cond t (movedTo e m q) (finishedAt e q)) (le-ltb m (countOf e - e .visited) (omega (arith, h)))
 
-  advance : (m : ℕ) (q : Pattern) (at : Place) → e .visited + m < countOf e
-      → advancedOf (movedTo e m q) at ≡ movedBy e (suc m) (patternAfter (movedTo e m q) at)
+  advance : (m : ℕ) (q : Pattern) → e .visited + m < countOf e
+      → advancedOf (movedTo e m q) ≡ movedBy e (suc m) (patternAfter (movedTo e m q))
   unfolding advancedOf movedBy
-  advance m q at h =
+  advance m q h =
       let f = movedTo e m q in
-      let p = patternAfter f at in
+      let p = patternAfter f in
       let next : e .visited + m + 1 ≡ e .visited + suc m = omega arith in
       let moved : ℕ → Engine = λ k. record { «under_way» = true; visited = k; registers = e .registers; pattern = p; last = e .last } in
       ap (λ t. cond t (moved (e .visited + m + 1)) (finishedAt e p))
@@ -78,8 +77,7 @@ module _ (e : Engine) where
           let own = t k .buffer in
           inked f (sourceOf f width height (e .visited + k) (cond to other own) (cond to own other)) (targetOf f width height (e .visited + k)) own
           ≡ t (suc k) .buffer
-      pub patterns : (k : ℕ) → e .visited + k < countOf e →
-          let f = movedTo e k (t k .pattern) in patternAfter f (targetOf f width height (e .visited + k)) ≡ t (suc k) .pattern
+      pub patterns : (k : ℕ) → e .visited + k < countOf e → patternAfter (movedTo e k (t k .pattern)) ≡ t (suc k) .pattern
 
     module _ (drawn : commandIn e .«to_virtual» ≡ to) (under-way : e .«under_way» ≡ true) (some : e .visited < countOf e)
         (first : t 0 .pattern ≡ e .pattern) (marked : Marked) where
@@ -92,11 +90,10 @@ module _ (e : Engine) where
       visits-are (suc m) few =
           let here : e .visited + m < countOf e = omega (arith, few) in
           let f = movedTo e m (t m .pattern) in
-          let at = targetOf f width height (e .visited + m) in
           ap (visitOf width height)
           (visits-are m (omega (arith, few)) ∙ ap (λ f. sceneOn f to (t m .buffer) other) (moved-within m (t m .pattern) here))
           ∙ visit-on width height f to (t m .buffer) other drawn
-          ∙ (λ i. sceneOn ((advance m (t m .pattern) at here ∙ ap (movedBy e (suc m)) (marked .patterns m here)) i) to (marked .buffers m here i) other)
+          ∙ (λ i. sceneOn ((advance m (t m .pattern) here ∙ ap (movedBy e (suc m)) (marked .patterns m here)) i) to (marked .buffers m here i) other)
 
 -- what lets visits be done at once
 pub record Leaps (e : Engine) (n width height display virt : ℕ) : Type 0 where

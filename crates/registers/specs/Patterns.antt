@@ -3,6 +3,7 @@ use mathlib.Core.Path.{_≡_}
 use mathlib.Core.Bool.{Bool, true, cond, _&&_}
 use Prim.Native.Nat.{ℕ, _+_, _/_, _%_, _^_}
 use lib.Dec.{eqb, ltb}
+use Rattle.lemmas.specs.Turns.{inTurn}
 use Rattle.entries.specs.Fields.{patternControlOf}
 use Rattle.entries.specs.Legality.{pctrlLegal}
 use Rattle.entries.specs.declared.fields.PatternControl.{PatternControl}
@@ -22,6 +23,10 @@ nextOf c p =
     cond (ltb (p .repeat + 1) (c .scale)) (record { place = p .place; repeat = p .repeat + 1 })
     (record { place = cond (ltb (p .place + 1) (c .length)) (p .place + 1) 0; repeat = 0 })
 
+-- n pixels on.
+abbrev pub movesOf : PatternControl → ℕ → Pattern → Pattern
+movesOf c n p = inTurn (λ _. nextOf c) n p
+
 -- A record is malformed where "the pattern's place is not below the length or its repeat not below the scale".
 unfoldable pub inRange : PatternControl → Pattern → Bool
 inRange c p = ltb (p .place) (c .length) && ltb (p .repeat) (c .scale)
@@ -34,3 +39,10 @@ abbrev pub StaysInRange : Type 0
 StaysInRange =
     (word : ℕ) (p : Pattern) → inRange (patternControlOf word) p ≡ true
     → inRange (patternControlOf word) (nextOf (patternControlOf word) p) ≡ true
+
+-- Many moves are one sum: n more pixels, of which each `scale` move the place by one, round the length.
+abbrev pub MovesInOneGo : Type 0
+MovesInOneGo =
+    (c : PatternControl) (n : ℕ) (p : Pattern) → inRange c p ≡ true
+    → movesOf c n p
+    ≡ record { place = (p .place + (p .repeat + n) / c .scale) % c .length; repeat = (p .repeat + n) % c .scale }

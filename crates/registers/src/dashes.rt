@@ -1,7 +1,8 @@
 // The line pattern's state.
 ghost use mathlib.Core.Path.{_≡_};
+ghost use Prim.Native.Nat.{_-_, min};
 ghost use Rattle.entries.specs.Fields.{patternControlOf};
-ghost use Rattle.registers.specs.Patterns.{startOf, patternBit, nextOf, inRange};
+ghost use Rattle.registers.specs.Patterns.{startOf, patternBit, nextOf, movesOf, inRange};
 use entries::PatternControl;
 use entries::pattern_control_of;
 
@@ -9,6 +10,20 @@ use entries::pattern_control_of;
 pub struct Pattern {
     pub place: u32,
     pub repeat: u32,
+}
+
+// n - 1, or 0.
+fn last_below(n: u32) -> u64
+    ensures { λ r. ⌜ r ≡ n - 1 ⌝ }
+{
+    if n == 0 { 0 } else { (n - 1) as u64 }
+}
+
+fn lesser(a: u32, b: u64) -> u64
+    ensures { λ r. ⌜ r ≡ min a b ⌝ }
+{
+    let wide = a as u64;
+    if wide < b { wide } else { b }
 }
 
 impl Pattern {
@@ -53,6 +68,31 @@ impl Pattern {
         Pattern {
             place: 0,
             repeat: 0,
+        }
+    }
+
+    // The state after n more pixels, in one go. A place or a repeat past the end moves on as the last one does.
+    pub fn after(self, control: PatternControl, n: u32) -> Pattern
+        ensures { λ r. ⌜ r ≡ movesOf control n self ⌝ }
+    {
+        if n == 0 {
+            return self;
+        }
+        let last_repeat = last_below(control.scale);
+        let gone = lesser(self.repeat, last_repeat) + n as u64;
+        let repeat = (gone % (last_repeat + 1)) as u32;
+        let turns = gone / (last_repeat + 1);
+        if turns == 0 {
+            return Pattern {
+                place: self.place,
+                repeat,
+            };
+        }
+        let last_place = last_below(control.length);
+        let place = lesser(self.place, last_place) + turns;
+        Pattern {
+            place: (place % (last_place + 1)) as u32,
+            repeat,
         }
     }
 

@@ -16,7 +16,9 @@ use Rattle.geometry.specs.Clip.{inWindow}
 use Rattle.geometry.specs.Line.{distance, stepsOf, linePoint, xMajor}
 use Rattle.geometry.specs.declared.Point.{Point}
 use Rattle.geometry.specs.declared.Window.{Window}
-use Rattle.strokes.specs.Strokes.{windowFits, strokeFits, plotted, pixelsOf, strokeOf, Dashed, dash, dashPixels, dashesOf}
+use Rattle.registers.specs.Patterns.{movesOf}
+use Rattle.registers.specs.declared.dashes.Pattern.{Pattern}
+use Rattle.strokes.specs.Strokes.{windowFits, strokeFits, plotted, pixelsOf, strokeOf, Dashed, dashed, dash, dashPixels, dashesOf}
 use Rattle.lemmas.specs.Turns.{inTurn}
 use Rattle.strokes.specs.Tracers.{pointOn, Traces, tracerAfter}
 use Rattle.strokes.specs.Cursors.{markOn, dashMarkOn, Stretch}
@@ -27,7 +29,7 @@ use Rattle.strokes.specs.declared.tracing.Tracer.{Tracer}
 use Rattle.lemmas.proofs.Turns.{turn-agree, turn-join, turn-idle}
 use Rattle.strokes.proofs.Traced.{traces-run, pixel, pixels-in-turn, dashes-in-turn}
 use Rattle.strokes.proofs.Fitting.{placed}
-use Rattle.strokes.proofs.Plots.{not-shown, plot-hidden, plot-shown, dash-hidden, dash-mark-shown}
+use Rattle.strokes.proofs.Plots.{not-shown, plot-hidden, plot-shown, unseen, dash-hidden, unseen-all, dash-mark-shown}
 
 pub record Fit (width : ℕ) (w : Window) (a b : Point) (first n long : ℕ) : Type 0 where
   pub whole : strokeFits width w a b first n long ≡ true
@@ -49,17 +51,21 @@ fit-of width w a b first n long h =
       pixels-in = leb-true (first + n) (stepsOf a b + 1) (and-right (held && more) on h);
     }
 
--- n steps of which only m from the p-th on change anything
-turn-part : {S : Type 0} (f : ℕ → S → S) (s : S) (n p m : ℕ) → p + m ≤ n
-    → ((k : ℕ) → k < n → (p ≤ k → p + m ≤ k) → (t : S) → f k t ≡ t) → inTurn (λ k. f (p + k)) m s ≡ inTurn f n s
-turn-part f s n p m l idle =
-    let q : ℕ = n - (p + m) in
-    let all : p + (m + q) ≡ n = omega arith in
-    sym (turn-idle (λ k. f (p + (m + k))) q (inTurn (λ k. f (p + k)) m s) (λ k h t. idle (p + (m + k)) (omega arith) (λ g. omega arith) t))
-    ∙ turn-join (λ k. f (p + k)) s m q
-    ∙ ap (inTurn (λ k. f (p + k)) (m + q)) (sym (turn-idle f p s (λ k h t. idle k (omega arith) (λ g. omega arith) t)))
+-- steps that change nothing
+still : {S : Type 0} (n : ℕ) (s : S) → inTurn (λ _ t. t) n s ≡ s
+still n s = turn-idle (λ _ t. t) n s (λ k h t. refl)
+
+-- n steps, of which all but m from the p-th on do the same
+turn-parts : {S : Type 0} (f : ℕ → S → S) (same : S → S) (s : S) (n p m q : ℕ) → p + m + q ≡ n
+    → ((k : ℕ) → k < n → (p ≤ k → p + m ≤ k) → (t : S) → same t ≡ f k t)
+    → inTurn (λ _. same) q (inTurn (λ k. f (p + k)) m (inTurn (λ _. same) p s)) ≡ inTurn f n s
+turn-parts f same s n p m q all idle =
+    turn-agree (λ _. same) (λ k. f (p + (m + k))) q (inTurn (λ k. f (p + k)) m (inTurn (λ _. same) p s))
+    (λ k h t. idle (p + (m + k)) (omega arith) (λ g. omega arith) t)
+    ∙ turn-join (λ k. f (p + k)) (inTurn (λ _. same) p s) m q
+    ∙ ap (inTurn (λ k. f (p + k)) (m + q)) (turn-agree (λ _. same) f p s (λ k h t. idle k (omega arith) (λ g. omega arith) t))
     ∙ turn-join f s p (m + q)
-    ∙ ap (λ (k : ℕ). inTurn f k s) all
+    ∙ ap (λ (k : ℕ). inTurn f k s) (omega (arith, all))
 
 -- what a window lets through of n pixels
 module _ (w : Window) (a b : Point) (first n : ℕ) (s : Span) (seen : Seen w a b first n s) where
@@ -68,22 +74,28 @@ module _ (w : Window) (a b : Point) (first n : ℕ) (s : Span) (seen : Seen w a 
       not-shown (inWindow w (linePoint a b (first + k)))
       (λ e. let o = seen .only (first + k) (omega arith) (omega arith) e in omega (arith, o, out (o .0)))
 
-  module _ {S : Type 0} (f : Point → S → S) (idle : (p : Point) (t : S) → inWindow w p ≡ false → f p t ≡ t) where
-    seen-none : (t : S) → s .end ≤ s .start → inTurn (λ k. f (linePoint a b (first + k))) n t ≡ t
+  -- a hidden pixel does the same wherever it lies
+  module _ {S : Type 0} (f : Point → S → S) (same : S → S) (hides : (p : Point) (t : S) → inWindow w p ≡ false → same t ≡ f p t) where
+    seen-none : (t : S) → s .end ≤ s .start → inTurn (λ _. same) n t ≡ inTurn (λ k. f (linePoint a b (first + k))) n t
     seen-none t e =
-        turn-idle (λ k. f (linePoint a b (first + k))) n t (λ k h u. idle (linePoint a b (first + k)) u (hidden k h (λ g. omega arith)))
+        turn-agree (λ _. same) (λ k. f (linePoint a b (first + k))) n t
+        (λ k h u. hides (linePoint a b (first + k)) u (hidden k h (λ g. omega arith)))
 
     seen-some : (t : S) → s .start < s .end
-        → inTurn (λ k. f (linePoint a b (s .start + k))) (s .end - s .start) t ≡ inTurn (λ k. f (linePoint a b (first + k))) n t
+        → inTurn (λ _. same) (first + n - s .end)
+        (inTurn (λ k. f (linePoint a b (s .start + k))) (s .end - s .start) (inTurn (λ _. same) (s .start - first) t))
+        ≡ inTurn (λ k. f (linePoint a b (first + k))) n t
     seen-some t l =
         let p : ℕ = s .start - first in
         let m : ℕ = s .end - s .start in
+        let q : ℕ = first + n - s .end in
         let low = seen .from-first in
         let high = seen .to-last in
-        turn-agree (λ k. f (linePoint a b (s .start + k))) (λ k. f (linePoint a b (first + (p + k)))) m t
-        (λ k h u. ap (λ (i : ℕ). f (linePoint a b i) u) (omega arith))
-        ∙ turn-part (λ k. f (linePoint a b (first + k))) t n p m (omega arith)
-        (λ k h out u. idle (linePoint a b (first + k)) u (hidden k h (λ g. let o = out (omega arith) in omega arith)))
+        ap (inTurn (λ _. same) q)
+        (turn-agree (λ k. f (linePoint a b (s .start + k))) (λ k. f (linePoint a b (first + (p + k)))) m (inTurn (λ _. same) p t)
+        (λ k h u. ap (λ (i : ℕ). f (linePoint a b i) u) (omega arith)))
+        ∙ turn-parts (λ k. f (linePoint a b (first + k))) same t n p m q (omega arith)
+        (λ k h out u. hides (linePoint a b (first + k)) u (hidden k h (λ g. let o = out (omega arith) in omega arith)))
 
   module _ (t : Tracer) (some : 0 < stepsOf a b) (l : first + n ≤ stepsOf a b + 1) (more : s .start < s .end) (o : Traces a b (s .start) t) where
     on-line : s .start + (s .end - s .start) ≤ stepsOf a b + 1
@@ -98,26 +110,39 @@ module _ (w : Window) (a b : Point) (first n : ℕ) (s : Span) (seen : Seen w a 
     pub marked-pixels : (width : ℕ) (pen : Pen) (u m : List ℕ) → m ≡ inTurn (markOn width pen t) (s .end - s .start) u
         → m ≡ pixelsOf width w pen a b first n u
     marked-pixels width pen u m e =
-        e ∙ turn-agree (markOn width pen t) (λ k. plotted width w pen (linePoint a b (s .start + k))) (s .end - s .start) u
+        let draw : ℕ → List ℕ → List ℕ = λ k. plotted width w pen (linePoint a b (s .start + k)) in
+        e ∙ turn-agree (markOn width pen t) draw (s .end - s .start) u
         (λ k h v. plot-shown width w (pointOn (tracerAfter t k)) v pen _ (all-shown k h) refl ∙ ap (λ (p : Point). plotted width w pen p v) (at k h))
-        ∙ seen-some (plotted width w pen) (λ p v h. sym (plot-hidden width w p v pen h)) u more
+        ∙ ap (inTurn draw (s .end - s .start)) (sym (still (s .start - first) u))
+        ∙ sym (still (first + n - s .end) _)
+        ∙ seen-some (plotted width w pen) (λ v. v) (λ p v h. plot-hidden width w p v pen h) u more
         ∙ pixels-in-turn width w pen a b first n u
 
-    pub marked-dashes : (width : ℕ) (d : Dashes) (u r : Dashed) → r ≡ inTurn (dashMarkOn width d t) (s .end - s .start) u
-        → r ≡ dashPixels width w d a b first n u
-    marked-dashes width d u r e =
-        e ∙ turn-agree (dashMarkOn width d t) (λ k. dash width w d (linePoint a b (s .start + k))) (s .end - s .start) u
+    pub marked-dashes : (width : ℕ) (d : Dashes) (u r : Dashed) (entering leaving : Pattern)
+        → entering ≡ movesOf (d .control) (s .start - first) (u .pattern)
+        → r ≡ inTurn (dashMarkOn width d t) (s .end - s .start) (dashed (u .buffer) entering)
+        → leaving ≡ movesOf (d .control) (first + n - s .end) (r .pattern)
+        → dashed (r .buffer) leaving ≡ dashPixels width w d a b first n u
+    marked-dashes width d u r entering leaving before e after =
+        let draw : ℕ → Dashed → Dashed = λ k. dash width w d (linePoint a b (s .start + k)) in
+        ap (dashed (r .buffer)) after
+        ∙ sym (unseen-all d (first + n - s .end) r)
+        ∙ ap (inTurn (λ _. unseen d) (first + n - s .end))
+        (e
+        ∙ turn-agree (dashMarkOn width d t) draw (s .end - s .start) _
         (λ k h v. dash-mark-shown width w (pointOn (tracerAfter t k)) d v (all-shown k h) ∙ ap (λ (p : Point). dash width w d p v) (at k h))
-        ∙ seen-some (dash width w d) (λ p v h. dash-hidden width w p d v h) u more
+        ∙ ap (inTurn draw (s .end - s .start)) (ap (dashed (u .buffer)) before ∙ sym (unseen-all d (s .start - first) u)))
+        ∙ seen-some (dash width w d) (unseen d) (λ p v h. sym (dash-hidden width w p d v h)) u more
         ∙ dashes-in-turn width w d a b first n u
 
   pub hidden-pixels : (width : ℕ) (pen : Pen) (u : List ℕ) → s .end ≤ s .start → u ≡ pixelsOf width w pen a b first n u
   hidden-pixels width pen u e =
-      sym (seen-none (plotted width w pen) (λ p v h. sym (plot-hidden width w p v pen h)) u e) ∙ pixels-in-turn width w pen a b first n u
+      sym (still n u) ∙ seen-none (plotted width w pen) (λ v. v) (λ p v h. plot-hidden width w p v pen h) u e ∙ pixels-in-turn width w pen a b first n u
 
-  pub hidden-dashes : (width : ℕ) (d : Dashes) (u : Dashed) → s .end ≤ s .start → u ≡ dashPixels width w d a b first n u
-  hidden-dashes width d u e =
-      sym (seen-none (dash width w d) (λ p v h. dash-hidden width w p d v h) u e) ∙ dashes-in-turn width w d a b first n u
+  pub hidden-dashes : (width : ℕ) (d : Dashes) (u : Dashed) (leaving : Pattern) → s .end ≤ s .start
+      → leaving ≡ movesOf (d .control) n (u .pattern) → dashed (u .buffer) leaving ≡ dashPixels width w d a b first n u
+  hidden-dashes width d u leaving e after =
+      ap (dashed (u .buffer)) after ∙ sym (unseen-all d n u) ∙ seen-none (dash width w d) (unseen d) (λ p v h. sym (dash-hidden width w p d v h)) u e ∙ dashes-in-turn width w d a b first n u
 
 major-of : (a b : Point) (i : ℕ) (t : Tracer) → Traces a b i t → (t .x .growth ≡ t .full) ⊎ (t .y .growth ≡ t .full)
 major-of a b i t o =

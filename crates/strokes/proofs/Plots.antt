@@ -3,18 +3,19 @@
 use mathlib.Core.Path.{_≡_, refl, ap, _∙_}
 use mathlib.Core.Bool.{Bool, true, false, cond, not, _&&_}
 use mathlib.Core.List.{List}
-use Prim.Native.Nat.{ℕ, _<_}
+use Prim.Native.Nat.{ℕ, zero, suc, _<_}
 use native.Mathlib.Nat.{mod-eq-of-lt}
 use lib.Bits.{bitAnd, xor-zero-r, xor-zero-l, and-zero-r, and-mask}
 use lib.ListN.{getD, set}
 use lib.Seq.{set-getD}
+use Rattle.lemmas.specs.Turns.{inTurn}
 use Rattle.raster.specs.Selectors.{drawn}
 use Rattle.raster.specs.declared.Pen.{Pen}
 use Rattle.geometry.specs.Clip.{inWindow, placeIn}
 use Rattle.geometry.specs.declared.Point.{Point}
 use Rattle.geometry.specs.declared.Window.{Window}
-use Rattle.registers.specs.Patterns.{patternBit}
-use Rattle.strokes.specs.Strokes.{plotted, Dashed, dash}
+use Rattle.registers.specs.Patterns.{patternBit, nextOf, movesOf}
+use Rattle.strokes.specs.Strokes.{plotted, Dashed, dashed, dash}
 use Rattle.strokes.specs.Phases.{clearPen}
 use Rattle.strokes.specs.Cursors.{mark, dashMark}
 use Rattle.strokes.specs.declared.Dashes.{Dashes}
@@ -50,14 +51,23 @@ module _ (width : ℕ) (w : Window) (p : Point) (l : List ℕ) where
   unfolding plotted
   plot-shown pen new h e = rw (h, e)
 
-pub dash-hidden : (width : ℕ) (w : Window) (p : Point) (d : Dashes) (s : Dashed) → inWindow w p ≡ false → dash width w d p s ≡ s
+-- the pattern moves where nothing is drawn
+abbrev pub unseen : Dashes → Dashed → Dashed
+unseen d s = dashed (s .buffer) (nextOf (d .control) (s .pattern))
+
+pub dash-hidden : (width : ℕ) (w : Window) (p : Point) (d : Dashes) (s : Dashed) → inWindow w p ≡ false → dash width w d p s ≡ unseen d s
 unfolding dash plotted
 dash-hidden width w p d s h =
-    rw h (λ i. record { buffer = same (not (patternBit (d .lpat) (s .pattern)) && d .clear) (s .buffer) i; pattern = s .pattern })
+    rw h (λ i. dashed (same (not (patternBit (d .lpat) (s .pattern)) && d .clear) (s .buffer) i) (nextOf (d .control) (s .pattern)))
   where
     same : {A : Type 0} (t : Bool) (x : A) → cond t x x ≡ x
     same true x = refl
     same false x = refl
+
+pub unseen-all : (d : Dashes) (n : ℕ) (s : Dashed) → inTurn (λ _. unseen d) n s ≡ dashed (s .buffer) (movesOf (d .control) n (s .pattern))
+unfolding inTurn
+unseen-all d zero s = refl
+unseen-all d (suc n) s = ap (unseen d) (unseen-all d n s)
 
 pub dash-mark-shown : (width : ℕ) (w : Window) (p : Point) (d : Dashes) (s : Dashed) → inWindow w p ≡ true
     → dashMark d (placeIn width p) s ≡ dash width w d p s

@@ -49,14 +49,14 @@ abbrev pub dashed : List ℕ → Pattern → Dashed
 dashed l q = record { buffer = l; pattern = q }
 
 -- One pixel of a dashed line: the pattern's bit chooses the pen, a 0 bit draws nothing where the dashes are clear, and the
--- pattern moves where the pixel is let through.
+-- pattern moves, let through or not (02, R-1).
 unfoldable pub dash : ℕ → Window → Dashes → Point → Dashed → Dashed
 dash width w d p s =
     record {
       buffer =
           cond (not (patternBit (d .lpat) (s .pattern)) && d .clear) (s .buffer)
           (plotted width w (cond (patternBit (d .lpat) (s .pattern)) (d .fore) (d .back)) p (s .buffer));
-      pattern = cond (inWindow w p) (nextOf (d .control) (s .pattern)) (s .pattern);
+      pattern = nextOf (d .control) (s .pattern);
     }
 
 unfoldable pub dashPixels : ℕ → Window → Dashes → Point → Point → ℕ → ℕ → Dashed → Dashed

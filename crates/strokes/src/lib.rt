@@ -94,7 +94,7 @@ pub fn draw_line(
     draw_shown(buffer, width, pen, tracer, seen.end - seen.start);
 }
 
-// The same in dashes, from a pattern state to the one after them.
+// The same in dashes, from a pattern state to the one after them. Where pixels are hidden the pattern moves in one go.
 pub fn draw_dashes(
     buffer: &mut [u8],
     width: u32,
@@ -111,10 +111,20 @@ pub fn draw_dashes(
     if !stroke_fits(width, window, from, to, first, n, buffer.len()) {
         return start;
     }
+    let control = dashes.control;
     let seen = seen_of(window, from, to, first, n);
     if seen.end <= seen.start {
-        return start;
+        return start.after(control, n as u32);
     }
+    let entering = start.after(control, (seen.start - first) as u32);
     let tracer = tracer_at(from, to, seen.start);
-    dash_shown(buffer, width, dashes, start, tracer, seen.end - seen.start)
+    let leaving = dash_shown(
+        buffer,
+        width,
+        dashes,
+        entering,
+        tracer,
+        seen.end - seen.start,
+    );
+    leaving.after(control, (first + n - seen.end) as u32)
 }

@@ -145,26 +145,31 @@ impl State {
         }
     }
 
-    /// "Source is FORE with SOLID; else the pattern bit: 1 FORE, 0 BACK, or nothing
-    /// with TRNSP." The pattern state "moves after each pixel that clip and buffer
-    /// let through, drawn or transparent"; "SOLID lines do not move it".
+    /// "The pattern is to move after every pixel that a line without SOLID visits,
+    /// drawn, clipped or off the buffer" (document 02, R-1).
     fn draw_line_pixel(&mut self, i: u32, buffers: &mut Buffers) {
-        let command = self.command();
         let (a, b) = self.line_ends();
-        let Some(index) = self.let_through(line_pixel(a, b, i64::from(i)), buffers) else {
-            return;
-        };
-        if command.has(flag::SOLID) {
-            self.put(index, self.byte(register::FORE), buffers);
-            return;
+        let index = self.let_through(line_pixel(a, b, i64::from(i)), buffers);
+        if let (Some(index), Some(source)) = (index, self.line_source()) {
+            self.put(index, source, buffers);
         }
+        if !self.command().has(flag::SOLID) {
+            self.move_pattern();
+        }
+    }
+
+    /// "Source is FORE with SOLID; else the pattern bit: 1 FORE, 0 BACK, or nothing
+    /// with TRNSP."
+    fn line_source(&self) -> Option<u8> {
+        let command = self.command();
         let pattern_bit = self.registers[register::LPAT] >> self.pattern_place & 1;
-        if pattern_bit == 1 {
-            self.put(index, self.byte(register::FORE), buffers);
-        } else if !command.has(flag::TRNSP) {
-            self.put(index, self.byte(register::BACK), buffers);
+        if command.has(flag::SOLID) || pattern_bit == 1 {
+            Some(self.byte(register::FORE))
+        } else if command.has(flag::TRNSP) {
+            None
+        } else {
+            Some(self.byte(register::BACK))
         }
-        self.move_pattern();
     }
 
     /// "repeat + 1; at the scale, repeat 0 and place + 1; at the length, place 0."

@@ -1,8 +1,11 @@
 use mathlib.Core.Path.{sym, _∙_}
+use Prim.Native.Nat.{_+_, _≤_}
+use native.Mathlib.Omega.{arith}
 use borrow.Author.Tests.{not-true, not-false}
 use borrow.Author.Needs.{needs}
 use lib.ListN.{length}
 use Rattle.geometry.specs.Coordinates.{pointOf}
+use Rattle.geometry.proofs.Lines.{steps-lt}
 use Rattle.strokes.proofs.Drawn.{Fit, fit-of, start-in, some-left, stretch-of, marked-dashes, hidden-dashes, dashes-fit, dashes-unfit}
 use Rattle.strokes.proofs.draw_dashes.Statement.{statement}
 use Rattle.strokes.proofs.draw_dashes.Tie as tie
@@ -12,6 +15,10 @@ fit : (c : tie.Else1)
     Fit (a .width) (a .window) (pointOf (a .from)) (pointOf (a .to)) (a .first) (a .n) (length (a .buffer .now))
 fit c = fit-of _ _ _ _ _ _ _ (sym (c .before .stroke-fits .ensures) ∙ not-false _ (c .if1 .left))
 
+-- so many pixels are in the machine's numbers
+few : (c : tie.Else1) → let a = c .before .before .before .args in a .first + a .n ≤ 65536
+few c = let a = c .before .before .before .args in omega (arith, fit c .pixels-in, steps-lt (a .from) (a .to))
+
 stroke-fits-requires : tie.Need-stroke-fits-requires
 stroke-fits-requires c κs = search needs
 
@@ -19,18 +26,37 @@ returns : tie.Need-returns
 returns c = dashes-unfit _ _ _ _ _ _ _ _ (sym (c .before .stroke-fits .ensures) ∙ not-true _ (c .if1 .taken))
 
 seen-of-requires : tie.Need-seen-of-requires
-seen-of-requires c κs = (fit c .steps-in, fit c .pixels-in)
+seen-of-requires c κs = (fit (c .before) .steps-in, fit (c .before) .pixels-in)
+
+cast-after : tie.Need-cast-after
+cast-after c = omega (arith, few (c .before .before .before .before))
+
+after-requires : tie.Need-after-requires
+after-requires c κs = search needs
 
 returns-2 : tie.Need-returns-2
 returns-2 c =
-    let q = c .before .before in
-    dashes-fit _ _ _ _ _ _ _ _ _ (fit (q .before) .whole) (hidden-dashes _ _ _ _ _ _ (q .seen-of .ensures) _ _ _ (c .if2 .taken))
+    let t = c .before in
+    let q = t .before .before in
+    dashes-fit _ _ _ _ _ _ _ _ _ (fit (q .before .before) .whole) (hidden-dashes _ _ _ _ _ _ (q .seen-of .ensures) _ _ _ _ (t .if2 .taken) (c .after .ensures))
+
+sub-after : tie.Need-sub-after
+sub-after c = search needs
+
+cast-after-2 : tie.Need-cast-after-2
+cast-after-2 c =
+    let q = c .before .before .before in
+    omega (arith, few (q .before .before), q .seen-of .ensures .to-last, c .before .if2 .left)
+
+after-requires-2 : tie.Need-after-requires-2
+after-requires-2 c κs = search needs
 
 tracer-at-requires : tie.Need-tracer-at-requires
 tracer-at-requires c κs =
-    let q = c .before .before in
-    let f = fit (q .before) in
-    (f .steps-in, start-in _ _ _ _ _ _ (q .seen-of .ensures) (f .pixels-in) (c .if2 .left))
+    let e = c .before .before in
+    let q = e .before .before in
+    let f = fit (q .before .before) in
+    (f .steps-in, start-in _ _ _ _ _ _ (q .seen-of .ensures) (f .pixels-in) (e .if2 .left))
 
 sub-dash-shown : tie.Need-sub-dash-shown
 sub-dash-shown c = search needs
@@ -38,22 +64,42 @@ sub-dash-shown c = search needs
 dash-shown-requires : tie.Need-dash-shown-requires
 dash-shown-requires c κs =
     let t = c .before .before in
-    let e = t .before in
-    let q = e .before .before in
-    (some-left _ _ (e .if2 .left), stretch-of _ _ _ _ _ _ _ _ _ (fit (q .before)) (q .seen-of .ensures) (e .if2 .left) (t .tracer-at .ensures))
+    let e = t .before .before .before in
+    let q = e .before .before in (
+      some-left _ _ (e .if2 .left),
+      stretch-of _ _ _ _ _ _ _ _ _ (fit (q .before .before)) (q .seen-of .ensures) (e .if2 .left) (t .tracer-at .ensures),
+    )
+
+add-after : tie.Need-add-after
+add-after c =
+    let t = c .before .before .before .before .before in
+    omega (arith, few (t .before .before .before .before .before .before .before))
+
+sub-after-2 : tie.Need-sub-after-2
+sub-after-2 c = search needs
+
+cast-after-3 : tie.Need-cast-after-3
+cast-after-3 c =
+    let t = c .before .before .before .before .before .before in
+    omega (arith, few (t .before .before .before .before .before .before .before))
+
+after-requires-3 : tie.Need-after-requires-3
+after-requires-3 c κs = search needs
 
 same-length : tie.Need-same-length
 same-length c = search needs
 
 returns-3 : tie.Need-returns-3
 returns-3 c =
-    let d = c .before .before in
+    let d = c .before .before .before .before in
     let t = d .before .before .before in
-    let e = t .before in
+    let m = t .before in
+    let e = m .before .before in
     let q = e .before .before in
-    let f = fit (q .before) in
+    let f = fit (q .before .before) in
     dashes-fit _ _ _ _ _ _ _ _ _ (f .whole)
-    (marked-dashes _ _ _ _ _ _ (q .seen-of .ensures) _ (f .steps-in) (f .pixels-in) (e .if2 .left) (t .tracer-at .ensures) _ _ _ _ (d .dash-shown .ensures))
+    (marked-dashes _ _ _ _ _ _ (q .seen-of .ensures) _ (f .steps-in) (f .pixels-in) (e .if2 .left) (t .tracer-at .ensures) _ _ _ _ _ _
+    (m .after2 .ensures) (d .dash-shown .ensures) (c .after3 .ensures))
 
 pub draw-dashes-spec : {M : Type 1} → statement M
 draw-dashes-spec =
@@ -62,9 +108,18 @@ draw-dashes-spec =
     stroke-fits-requires
     returns
     seen-of-requires
+    cast-after
+    after-requires
     returns-2
+    sub-after
+    cast-after-2
+    after-requires-2
     tracer-at-requires
     sub-dash-shown
     dash-shown-requires
+    add-after
+    sub-after-2
+    cast-after-3
+    after-requires-3
     same-length
     returns-3)

@@ -18,8 +18,8 @@ cast-if1 c = search needs
 add-if1 : tie.Need-add-if1
 add-if1 c = search needs
 
-add-t9 : tie.Need-add-t9
-add-t9 c =
+add-t8 : tie.Need-add-t8
+add-t8 c =
     let first = c .before .before .before .before .before .before in
     omega (arith, c .before .before .before .count .ensures, pixels-lt (first .args .self) (omega (arith, first .good .0)))
 
@@ -38,4 +38,4 @@ returns-2 c =
 pub advanced-spec : {M : Type 1} → statement M
 advanced-spec =
     tie.close
-    (tie.spec pattern-after-requires count-requires cast-if1 add-if1 add-t9 returns returns-2)
+    (tie.spec pattern-after-requires count-requires cast-if1 add-if1 add-t8 returns returns-2)
