@@ -1,14 +1,16 @@
 -- What a command's decoded fields say of the definitions: the kind, the visit, the clip and the source.
 -- Assumes nothing.
 use mathlib.Core.Path.{_≡_, ap, ap₂, sym, _∙_}
-use mathlib.Core.Bool.{Bool, true, false, not, cond, _&&_, _||_}
+use mathlib.Core.Bool.{Bool, true, false, not, cond, _&&_, _||_, and-true}
 use mathlib.Core.List.{List}
 use Prim.Native.Nat.{ℕ}
-use borrow.Author.Tests.{eq-eqb, ne-eqb}
+use borrow.Author.Tests.{eqb-true, eq-eqb, ne-eqb}
 use lib.Dec.{eqb}
+use Rattle.lemmas.proofs.Booleans.{by-cases}
 use Rattle.geometry.specs.Coordinates.{pointOf}
 use Rattle.geometry.specs.Clip.{rectOf, inRect, placeOf}
-use Rattle.geometry.specs.Blit.{blitVisit}
+use Rattle.geometry.specs.Line.{lineCount}
+use Rattle.geometry.specs.Blit.{blitCount, blitVisit}
 use Rattle.geometry.specs.declared.Point.{Point}
 use Rattle.geometry.specs.declared.Rect.{Rect}
 use Rattle.geometry.specs.declared.Place.{Place}
@@ -16,9 +18,9 @@ use Rattle.geometry.specs.declared.Place.the-variants.{Outside}
 use Rattle.geometry.specs.declared.Visit.{Visit}
 use Rattle.geometry.specs.declared.Visit.the-variants.{At as VisitAt}
 use Rattle.entries.specs.declared.fields.Command.{Command}
-use Rattle.commands.specs.Visits.{commandIn, isLine, countOf, clippedOut, visitAt, throughTo, targetOf}
+use Rattle.commands.specs.Visits.{commandIn, isLine, lineStart, countOf, clippedOut, visitAt, throughTo, targetOf}
 use Rattle.commands.specs.Sources.{keyed, readAt, copiedAt, copiedOf}
-use Rattle.commands.specs.Steps.{setsPattern, finishes}
+use Rattle.commands.specs.Steps.{inDashes, setsPattern, finishes}
 use Rattle.commands.specs.declared.Engine.{Engine}
 use Rattle.commands.specs.declared.Source.the-variants.{Value, Nothing}
 
@@ -51,13 +53,28 @@ module _ (e : Engine) (c : Command) (p : c ≡ commandIn e) where
   sets-is number t q b h =
       ap₂ (λ (c : Command) t. eqb number 6 || (eqb number 12 && t && c .prst)) (sym p) (ap isLine (sym p) ∙ sym q) ∙ h
 
-  pub finish-is : (number n : ℕ) (t : Bool) → n ≡ countOf e → t ≡ isLine c → (b : Bool)
-      → (eqb number 12 && (eqb (c .opcode) 1 || t) && eqb n 0) ≡ b → finishes number e ≡ b
-  finish-is number n t r q b h =
+  pub finish-is : (number : ℕ) (empty t : Bool) → empty ≡ eqb (countOf e) 0 → t ≡ isLine c → (b : Bool)
+      → (eqb number 12 && (eqb (c .opcode) 1 || t) && empty) ≡ b → finishes number e ≡ b
+  finish-is number empty t r q b h =
       ap₂ (λ (c : Command) t. eqb number 12 && (eqb (c .opcode) 1 || t) && eqb (countOf e) 0) (sym p) (ap isLine (sym p) ∙ sym q)
-      ∙ ap (λ n. eqb number 12 && (eqb (c .opcode) 1 || t) && eqb n 0) (sym r) ∙ h
+      ∙ ap (λ n. eqb number 12 && (eqb (c .opcode) 1 || t) && n) (sym r) ∙ h
 
-  pub dash-is : (t : Bool) → t ≡ isLine c → (b : Bool) → (t && not (c .solid)) ≡ b → (isLine (commandIn e) && not (commandIn e .solid)) ≡ b
+  pub empty-is : (t blit line : Bool) → t ≡ isLine c → blit ≡ eqb (blitCount (e .registers .xy2)) 0
+      → line ≡ eqb (lineCount (pointOf (lineStart e)) (pointOf (e .registers .xy1)) (c .nlst)) 0
+      → ((not (eqb (c .opcode) 1) || blit) && (not t || line)) ≡ eqb (countOf e) 0
+  unfolding countOf
+  empty-is t blit line q f g =
+      rw (q, f, g, p)
+      (by (commandIn e .opcode) (blitCount (e .registers .xy2)) (lineCount (pointOf (lineStart e)) (pointOf (e .registers .xy1)) (commandIn e .nlst)))
+    where
+      by : (opcode n m : ℕ)
+          → ((not (eqb opcode 1) || eqb n 0) && (not (eqb opcode 2 || eqb opcode 5) || eqb m 0))
+          ≡ eqb (cond (eqb opcode 1) n (cond (eqb opcode 2 || eqb opcode 5) m 0)) 0
+      by opcode n m =
+          by-cases (eqb opcode 1) (λ t. rw (eqb-true opcode 1 t) (and-true (eqb n 0)))
+          (λ t. rw t (by-cases (eqb opcode 2 || eqb opcode 5) (λ s. rw s) (λ s. rw s)))
+
+  pub dash-is : (t : Bool) → t ≡ isLine c → (b : Bool) → (t && not (c .solid)) ≡ b → inDashes (commandIn e) ≡ b
   dash-is t q b h = ap₂ (λ (c : Command) t. t && not (c .solid)) (sym p) (ap isLine (sym p) ∙ sym q) ∙ h
 
 -- a visit that was looked at decides where it goes

@@ -1,12 +1,12 @@
 -- A command that its trigger sets under way keeps its last point, and so its count, until it has finished.
 -- Assumes nothing.
-use mathlib.Core.Path.{_≡_, refl, ap, _∙_}
-use mathlib.Core.Bool.{Bool, true, false, cond, _&&_, _||_, and-false}
+use mathlib.Core.Path.{_≡_, refl, ap, sym, _∙_}
+use mathlib.Core.Bool.{Bool, true, false, not, cond, _&&_, _||_, and-false}
 use Prim.Native.Nat.{ℕ}
 use native.Mathlib.Omega.{arith}
-use borrow.Author.Tests.{ltb-true, ne-eqb}
+use borrow.Author.Tests.{eqb-true, eqb-false, ltb-true, lt-ltb, le-ltb, ne-eqb}
 use lib.Dec.{eqb, ltb}
-use Rattle.lemmas.proofs.Booleans.{and-right}
+use Rattle.lemmas.proofs.Booleans.{by-cases, and-right}
 use Rattle.commands.specs.Visits.{commandIn, isBlit, isLine, countOf}
 use Rattle.registers.specs.declared.dashes.Pattern.{Pattern}
 use Rattle.commands.specs.Steps.{patternSet, triggeredOf}
@@ -17,6 +17,13 @@ use Rattle.commands.proofs.Bounds.{count-same}
 pub triggers-nothing : (number : ℕ) (f : Engine) → (number ≡ 12 → ⊥) → (q : Pattern) → q ≡ patternSet number f
     → record { «under_way» = false; visited = 0; registers = f .registers; pattern = q; last = f .last } ≡ triggeredOf number f
 triggers-nothing number f h q e = rw (e, ne-eqb number 12 h)
+
+pub some-pixels : (e : Engine) (empty : Bool) → empty ≡ eqb (countOf e) 0 → not empty ≡ ltb 0 (countOf e)
+some-pixels e empty h =
+    ap not h
+    ∙ by-cases (eqb (countOf e) 0)
+    (λ t. rw t (sym (le-ltb 0 (countOf e) (omega (arith, eqb-true (countOf e) 0 t)))))
+    (λ t. rw t (sym (lt-ltb 0 (countOf e) (omega (arith, eqb-false (countOf e) 0 t)))))
 
 -- with pixels to visit the command has not finished
 unfinished : (n k : Bool) (c : ℕ) → (n && ltb 0 c) ≡ true → (n && k && eqb c 0) ≡ false

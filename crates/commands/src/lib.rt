@@ -1,6 +1,7 @@
 // One command on the two picture buffers: what it visits, and what one step does (document 01, Steps and Pixels). Lists
 // and slots are not known here.
 ghost use mathlib.Core.Path.{_≡_};
+ghost use lib.Dec.{eqb};
 ghost use lib.ListN.{getD};
 ghost use Rattle.raster.specs.Raster.{newByte};
 ghost use Rattle.commands.specs.Visits.{isLine, lineStart, countOf, visitAt, targetOf};
@@ -13,8 +14,10 @@ use entries::pattern_control_of;
 use geometry::Place;
 use geometry::Visit;
 use geometry::blit_count;
+use geometry::blit_is_empty;
 use geometry::blit_visit;
 use geometry::line_count;
+use geometry::line_is_empty;
 use geometry::line_visit;
 use geometry::place_of;
 use geometry::rect_of;
@@ -98,6 +101,17 @@ impl Engine {
             return line_count(self.line_start(), g.xy1, c.nlst);
         }
         0
+    }
+
+    // Whether it visits no pixel.
+    fn is_empty(self) -> bool
+        ensures { λ r. ⌜ r ≡ eqb (countOf self) 0 ⌝ }
+    {
+        let g = self.registers;
+        let c = command_of(g.cmd);
+        let line = is_line(c);
+        let start = self.line_start();
+        ((c.opcode != 1) | blit_is_empty(g.xy2)) & (!line | line_is_empty(start, g.xy1, c.nlst))
     }
 
     // Where its visit k lies.
@@ -288,11 +302,11 @@ impl Engine {
             };
         }
         let c = command_of(g.cmd);
-        let n = self.count();
+        let empty = self.is_empty();
         let line = is_line(c);
-        let finished = (number == 12) & ((c.opcode == 1) | line) & (n == 0);
+        let finished = (number == 12) & ((c.opcode == 1) | line) & empty;
         Engine {
-            under_way: (number == 12) & (0 < n),
+            under_way: (number == 12) & !empty,
             visited: 0,
             registers: g,
             pattern: p,

@@ -2,14 +2,14 @@
 -- on the exact line, and the ends are A and B.
 -- Assumes nothing.
 use mathlib.Core.Path.{_≡_, refl, ap, sym, _∙_}
-use mathlib.Core.Bool.{Bool, true, false}
-use Prim.Native.Nat.{ℕ, zero, suc, _+_, _-_, _*_, _/_, _%_, _≤_, _<_}
+use mathlib.Core.Bool.{Bool, true, false, _&&_}
+use Prim.Native.Nat.{ℕ, zero, suc, _+_, _-_, _*_, _/_, _%_, _≤_, _<_, max}
 use native.Mathlib.Nat.{mul-le-mul, mul-le-mul-left, add-mul, mul-add, mul-assoc, mul-comm, mul-suc, zero-mul, le-antisymm, div-add-mod, mod-lt}
 use native.Mathlib.Omega.{arith}
-use borrow.Author.Tests.{eq-eqb, ne-eqb, leb-true, leb-false, le-leb, lt-ltb, le-ltb}
-use lib.Dec.{leb, ltb, ltb→lt, nltb→le, not-T}
+use borrow.Author.Tests.{eqb-true, eqb-false, eq-eqb, ne-eqb, leb-true, leb-false, le-leb, lt-ltb, le-ltb}
+use lib.Dec.{eqb, leb, ltb, ltb→lt, nltb→le, not-T}
 use Rattle.lemmas.proofs.Booleans.{by-cases}
-use Rattle.geometry.specs.Coordinates.{pointOf}
+use Rattle.geometry.specs.Coordinates.{coordinateOf, pointOf}
 use Rattle.geometry.specs.Line.{distance, stepsOf, lineCount, exact, nearestOf, linePoint, lineVisit, towards, OneAtEach, FromAToB}
 use Rattle.geometry.specs.declared.Point.{Point}
 use Rattle.geometry.specs.declared.Visit.the-variants.{At, Past}
@@ -130,3 +130,30 @@ module _ (a b : Point) (nlst : Bool) (k : ℕ) where
 pub count-le : (a b : Point) (nlst : Bool) → lineCount a b nlst ≤ stepsOf a b + 1
 count-le a b true = omega arith
 count-le a b false = omega arith
+
+-- two words with the same coordinates are the same
+same-half : (g h : ℕ) → g < 65536 → h < 65536 → distance (coordinateOf g) (coordinateOf h) ≡ 0 → g ≡ h
+same-half g h hg hh e = omega arith
+
+same-word : (v w : ℕ) → v < 4294967296 → w < 4294967296 → stepsOf (pointOf v) (pointOf w) ≡ 0 → v ≡ w
+unfolding pointOf
+same-word v w hv hw e =
+    let n = distance (coordinateOf (v / 65536)) (coordinateOf (w / 65536)) in
+    let m = distance (coordinateOf (v % 65536)) (coordinateOf (w % 65536)) in
+    let x = same-half (v / 65536) (w / 65536) (omega (arith, hv)) (omega (arith, hw)) (neither n m e) in
+    let y = same-half (v % 65536) (w % 65536) (omega arith) (omega arith) (neither m n (swap m n e)) in
+    omega (arith, x, y)
+  where
+    neither : (n m : ℕ) → max n m ≡ 0 → n ≡ 0
+    neither n m e = omega arith
+
+    swap : (n m : ℕ) → max m n ≡ 0 → max n m ≡ 0
+    swap n m e = omega arith
+
+pub line-empty : (v w : ℕ) (nlst : Bool) → v < 4294967296 → w < 4294967296
+    → (nlst && eqb v w) ≡ eqb (lineCount (pointOf v) (pointOf w) nlst) 0
+line-empty v w true hv hw =
+    by-cases (eqb v w)
+    (λ t. t ∙ sym (eq-eqb (stepsOf (pointOf v) (pointOf w)) 0 (ap (λ (u : ℕ). stepsOf (pointOf u) (pointOf w)) (eqb-true v w t) ∙ omega arith)))
+    (λ t. t ∙ sym (ne-eqb (stepsOf (pointOf v) (pointOf w)) 0 (λ e. eqb-false v w t (same-word v w hv hw e))))
+line-empty v w false hv hw = sym (ne-eqb (stepsOf (pointOf v) (pointOf w) + 1) 0 (λ e. omega arith))

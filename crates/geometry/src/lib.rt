@@ -2,6 +2,7 @@
 // a blit visit (document 01, Entry layout and Pixels).
 ghost use mathlib.Core.Path.{_≡_};
 ghost use Prim.Native.Nat.{_<_, _≤_, min, max};
+ghost use lib.Dec.{eqb};
 ghost use Rattle.geometry.specs.Coordinates.{coordinateOf, pointOf};
 ghost use Rattle.geometry.specs.Clip.{rectOf, inRect, windowOf, placeOf};
 ghost use Rattle.geometry.specs.Line.{distance, stepsOf, xMajor, lineCount, nearestOf, lineVisit};
@@ -171,6 +172,13 @@ pub fn line_count(from: u32, to: u32, skip_last: bool) -> usize
     if skip_last { n } else { n + 1 }
 }
 
+// Whether a line visits no pixel.
+pub fn line_is_empty(from: u32, to: u32, skip_last: bool) -> bool
+    ensures { λ r. ⌜ r ≡ eqb (lineCount (pointOf from) (pointOf to) «skip_last») 0 ⌝ }
+{
+    skip_last & (from == to)
+}
+
 // One coordinate of pixel i of a line of n steps from a to b.
 fn nearest(n: usize, i: usize, a: usize, b: usize) -> usize
     requires { ⌜ (n < 65536) × (i ≤ n) × (a < 131072) × (b < 131072) ⌝ }
@@ -203,6 +211,13 @@ pub fn blit_count(size: u32) -> usize
     ensures { λ r. ⌜ r ≡ blitCount size ⌝ }
 {
     ((size / 65536) as usize) * ((size % 65536) as usize)
+}
+
+// Whether a blit visits no pixel.
+pub fn blit_is_empty(size: u32) -> bool
+    ensures { λ r. ⌜ r ≡ eqb (blitCount size) 0 ⌝ }
+{
+    (size < 65536) | (size % 65536 == 0)
 }
 
 // The coordinate k pixels from c, up or back.

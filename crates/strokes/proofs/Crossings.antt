@@ -192,6 +192,24 @@ pub seen-by : (w : Window) (a b p q : Point) (first n steps : ℕ) (x y : Span) 
 seen-by w a b p q first n steps x y s₁ s₂ e₁ e₂ l e f g u v h i j k =
     rw (i, h, k, j) (seen-part w a b first n x y l (rw (e, f, g) at u) (rw (e, f, g) at v))
 
+-- a line that lies left or right of the window
+pub seen-beside : (w : Window) (a b p q : Point) (first n steps : ℕ) (x : Span) → first + n ≤ stepsOf a b + 1
+    → p ≡ a → q ≡ b → steps ≡ stepsOf a b → Spans steps (p .x) (q .x) (w .left) (w .right) x → x .end ≤ x .start
+    → Seen w a b first n (record { start = first; end = first })
+seen-beside w a b p q first n steps x l e f g u none =
+    let spans = rw (e, f, g) at u in
+    record {
+      from-first = omega arith;
+      to-last = omega arith;
+      inside = λ i h k. absurd (omega (arith, h, k));
+      only =
+          λ i h k t.
+          let on = short i (first + n) (stepsOf a b) k l in
+          let s = shown-of w (linePoint a b i) t in
+          let within = spans .only i on (s .from-left) (s .to-right) in
+          absurd (omega (arith, within, none));
+    }
+
 pub last-fits : (first n steps : ℕ) → first + n ≤ steps + 1 → steps < 65536 → first + n < 2 ^ 64
 last-fits first n steps l h = omega arith
 

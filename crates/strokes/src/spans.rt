@@ -105,6 +105,12 @@ pub(crate) fn seen_of(w: Window, from: u32, to: u32, first: usize, n: usize) -> 
     }
     let steps = line_steps(from, to);
     let x = span_of(steps, a.x, b.x, w.left, w.right);
+    if x.end <= x.start {
+        return Span {
+            start: first,
+            end: first,
+        };
+    }
     let y = span_of(steps, a.y, b.y, w.top, w.bottom);
     let start = larger(larger(first, x.start), y.start);
     let end = smaller(smaller(last, x.end), y.end);

@@ -1,7 +1,7 @@
 use borrow.Author.Needs.{needs}
 use mathlib.Core.Bool.{true, false}
 use Rattle.commands.proofs.Tests.{finish-is}
-use Rattle.commands.proofs.Triggers.{triggers-nothing}
+use Rattle.commands.proofs.Triggers.{triggers-nothing, some-pixels}
 use Rattle.commands.proofs.Engine.triggered.Statement.{statement}
 use Rattle.commands.proofs.Engine.triggered.Tie as tie
 
@@ -14,8 +14,8 @@ returns c = triggers-nothing _ _ (c .if1 .taken) _ (c .before .pattern-set .ensu
 command-of-requires : tie.Need-command-of-requires
 command-of-requires c κs = search needs
 
-count-requires : tie.Need-count-requires
-count-requires c κs = search needs
+is-empty-requires : tie.Need-is-empty-requires
+is-empty-requires c κs = search needs
 
 is-line-requires : tie.Need-is-line-requires
 is-line-requires c κs = search needs
@@ -25,8 +25,8 @@ returns-2 c =
     let o = c .before .before in
     let s = o .before .before .before .before .before .args in
     rw (
-      finish-is (s .self) _ (o .before .command-of .ensures) (s .number) _ _ (o .count .ensures) (c .before .is-line .ensures) true (c .if2 .taken),
-      o .count .ensures,
+      finish-is (s .self) _ (o .before .command-of .ensures) (s .number) _ _ (o .is-empty .ensures) (c .before .is-line .ensures) true (c .if2 .taken),
+      some-pixels (s .self) _ (o .is-empty .ensures),
       o .before .before .before .pattern-set .ensures,
     )
 
@@ -35,8 +35,8 @@ returns-3 c =
     let o = c .before .before in
     let s = o .before .before .before .before .before .args in
     rw (
-      finish-is (s .self) _ (o .before .command-of .ensures) (s .number) _ _ (o .count .ensures) (c .before .is-line .ensures) false (c .if2 .left),
-      o .count .ensures,
+      finish-is (s .self) _ (o .before .command-of .ensures) (s .number) _ _ (o .is-empty .ensures) (c .before .is-line .ensures) false (c .if2 .left),
+      some-pixels (s .self) _ (o .is-empty .ensures),
       o .before .before .before .pattern-set .ensures,
     )
 
@@ -47,7 +47,7 @@ triggered-spec =
     pattern-set-requires
     returns
     command-of-requires
-    count-requires
+    is-empty-requires
     is-line-requires
     returns-2
     returns-3)

@@ -1,7 +1,7 @@
 use borrow.Author.Needs.{needs}
 use Rattle.geometry.proofs.Whole.{x-within, y-within}
 use Rattle.geometry.proofs.Lines.{steps-lt}
-use Rattle.strokes.proofs.Crossings.{last-fits, x-slope, y-slope, seen-whole, seen-by}
+use Rattle.strokes.proofs.Crossings.{last-fits, x-slope, y-slope, seen-whole, seen-by, seen-beside}
 use Rattle.strokes.proofs.spans.seen_of.Statement.{statement}
 use Rattle.strokes.proofs.spans.seen_of.Tie as tie
 
@@ -41,9 +41,18 @@ span-of-requires c κs =
     rw (l .line-steps .ensures, q .point-of2 .ensures, q .before .point-of .ensures)
     (s .pre .0, steps-lt _ _, x-within _ .high, x-within _ .high, x-slope _ _)
 
+returns-2 : tie.Need-returns-2
+returns-2 c =
+    let x = c .before .before in
+    let l = x .before in
+    let q = l .before .before .before .before in
+    let s = q .before .before in
+    seen-beside _ _ _ _ _ _ _ _ _ (s .pre .1) (q .before .point-of .ensures) (q .point-of2 .ensures) (l .line-steps .ensures)
+    (x .span-of .ensures) (c .if2 .taken)
+
 span-of-requires-2 : tie.Need-span-of-requires-2
 span-of-requires-2 c κs =
-    let l = c .before in
+    let l = c .before .before .before in
     let q = l .before .before .before .before in
     let s = q .before .before in
     rw (l .line-steps .ensures, q .point-of2 .ensures, q .before .point-of .ensures)
@@ -61,15 +70,16 @@ smaller-requires c κs = search needs
 smaller-requires-2 : tie.Need-smaller-requires-2
 smaller-requires-2 c κs = search needs
 
-returns-2 : tie.Need-returns-2
-returns-2 c =
+returns-3 : tie.Need-returns-3
+returns-3 c =
     let g = c .before .before in
     let y = g .before .before in
-    let l = y .before .before in
+    let x = y .before .before .before in
+    let l = x .before in
     let q = l .before .before .before .before in
     let s = q .before .before in
     seen-by _ _ _ _ _ _ _ _ _ _ _ _ _ _ (s .pre .1) (q .before .point-of .ensures) (q .point-of2 .ensures) (l .line-steps .ensures)
-    (y .before .span-of .ensures) (y .span-of2 .ensures) (g .before .larger .ensures) (g .larger2 .ensures) (c .before .smaller .ensures) (c .smaller2 .ensures)
+    (x .span-of .ensures) (y .span-of2 .ensures) (g .before .larger .ensures) (g .larger2 .ensures) (c .before .smaller .ensures) (c .smaller2 .ensures)
 
 pub seen-of-spec : {M : Type 1} → statement M
 seen-of-spec =
@@ -83,9 +93,10 @@ seen-of-spec =
     returns
     line-steps-requires
     span-of-requires
+    returns-2
     span-of-requires-2
     larger-requires
     larger-requires-2
     smaller-requires
     smaller-requires-2
-    returns-2)
+    returns-3)
