@@ -1,14 +1,17 @@
--- P9 and P10 hold.
+-- P9 and P10 hold, and so do the examples of R-1.
 -- Assumes nothing.
 use mathlib.Core.Path.{refl}
 use Rattle.raster.specs.Raster.{newBit, newByte}
 use Rattle.geometry.specs.Coordinates.{pointOf}
 use Rattle.geometry.specs.Clip.{placeOf}
+use Rattle.geometry.specs.Line.{nearestOf, lineVisit}
 use Rattle.geometry.specs.Blit.{blitVisit}
+use Rattle.entries.specs.Fields.{lengthOf}
+use Rattle.registers.specs.Patterns.{patternBit, nextOf}
 use Rattle.commands.specs.Visits.{countOf, visitAt}
-use Rattle.commands.specs.Sources.{copiedOf, sourceOf}
+use Rattle.commands.specs.Sources.{copiedOf, dashOf, sourceOf}
 use Rattle.commands.specs.Steps.{patternAfter, advancedOf, visitOf, visitsOf}
-use Rattle.commands.specs.Examples.{P9, P10}
+use Rattle.commands.specs.Examples.{P9, P10, R1}
 
 pub p9 : P9
 unfolding newBit newByte pointOf placeOf blitVisit countOf visitAt copiedOf sourceOf patternAfter advancedOf visitOf visitsOf
@@ -17,3 +20,7 @@ p9 = refl
 pub p10 : P10
 unfolding newBit newByte pointOf placeOf blitVisit countOf visitAt copiedOf sourceOf patternAfter advancedOf visitOf visitsOf
 p10 = refl
+
+pub r1 : R1
+unfolding newBit newByte pointOf placeOf nearestOf lineVisit lengthOf patternBit nextOf countOf visitAt dashOf sourceOf patternAfter advancedOf visitOf visitsOf
+r1 = ((refl, refl), (refl, refl, refl), (refl, refl))
