@@ -10,6 +10,9 @@
  * the other way, the lines with a halfway point differ and no others do. On BIASED the server takes the smaller minor
  * coordinate too, and both ways agree. Bit k of a line bias keeps the lines of octant k from stepping at a halfway point,
  * where k is 1 if y is major, plus 2 if y shrinks, plus 4 if x shrinks; 27 is the octants whose minor coordinate grows.
+ *
+ * The rule for dashes. Both move the pattern by one at every pixel of a line, hidden ones too. A line drawn from B to A
+ * gets its pattern reversed: pixel j from B is pixel n - j from A.
  */
 #include <X11/Xlib.h>
 #include <X11/Xutil.h>
@@ -43,15 +46,24 @@ typedef struct box {
     int left, top, right, bottom;
 } box;
 
+/* the pattern of a line, each of its bits being that of `scale` pixels */
+typedef struct dashes {
+    uint32_t bits; /* bit 0 first */
+    int length, scale;
+    int phase; /* where in the period of length x scale pixels the line begins */
+} dashes;
+
 typedef struct drawing {
-    unsigned opcode, code, mask, fore;
-    bool solid, nlst, clipped;
-    unsigned ignored; /* bits of CMD that SOLID leaves without effect */
+    unsigned opcode, code, mask, fore, back;
+    bool solid, trnsp, nlst, clipped;
+    unsigned unread; /* more bits of CMD, which tell X nothing */
     unsigned source, destination; /* 0 display, 1 virtual */
     box clip;
     point a, b; /* ends of a line; upper left corners of source and destination of a blit */
     unsigned width, height, direction;
     bool backwards; /* X draws the line from B to A */
+    dashes dashes; /* of a line without SOLID */
+    struct drawing *before; /* the line before it in the same list, from whose end the pattern goes on, or NULL */
 } drawing;
 
 typedef struct server {
@@ -122,10 +134,15 @@ static uint32_t corner(const drawing *d, point p)
     return word(p.x, p.y);
 }
 
+static bool is_dashed(const drawing *d)
+{
+    return d->opcode != BITBLT && !d->solid;
+}
+
 static uint32_t cmd(const drawing *d)
 {
-    return d->opcode << 28 | d->code << 24 | (d->solid ? SOLID : 0) | (d->nlst ? NLST : 0) | (d->clipped ? CLIP : 0) |
-           d->ignored | d->source << 16 | d->destination << 15;
+    return d->opcode << 28 | d->code << 24 | (d->solid ? SOLID : 0) | (d->trnsp ? TRNSP : 0) | (d->nlst ? NLST : 0) |
+           (is_dashed(d) ? STPL : 0) | (d->clipped ? CLIP : 0) | d->unread | d->source << 16 | d->destination << 15;
 }
 
 /* a blit of no pixels, which leaves the last point at its XY1 */
@@ -147,12 +164,21 @@ static void blit_entries(const drawing *d)
 
 static void line_entries(const drawing *d)
 {
-    if (d->opcode == PLINE)
-        last_point(d->a);
-    else
+    if (d->opcode == LINE)
         entry(XY0, word(d->a.x, d->a.y));
+    else if (!d->before)
+        last_point(d->a);
     entry(CMD, cmd(d));
     entry(XY1, word(d->b.x, d->b.y));
+}
+
+static void dash_entries(const drawing *d)
+{
+    const dashes *p = d->before ? &d->before->dashes : &d->dashes;
+    const int place = p->phase / p->scale, repeat = p->phase % p->scale;
+    entry(BACK, d->back);
+    entry(LPAT, p->bits);
+    entry(PCTRL, (uint32_t)(p->length % 32 | (p->scale - 1) << 5 | place << 8 | repeat << 13));
 }
 
 static void display_list(const drawing *d)
@@ -162,6 +188,10 @@ static void display_list(const drawing *d)
     entry(MASK, d->mask);
     entry(CLPTL, word(d->clip.left, d->clip.top));
     entry(CLPBR, word(d->clip.right, d->clip.bottom));
+    if (is_dashed(d))
+        dash_entries(d);
+    if (d->before)
+        line_entries(d->before);
     if (d->opcode == BITBLT)
         blit_entries(d);
     else
@@ -268,9 +298,82 @@ static void set_gc(const server *s, const drawing *d)
     const bool not_last = d->nlst && !d->backwards;
     XGCValues values = {.function = (int)d->code, .plane_mask = d->mask, .foreground = d->fore};
     values.cap_style = not_last ? CapNotLast : CapButt;
-    XChangeGC(s->display, s->gc, GCFunction | GCPlaneMask | GCForeground | GCCapStyle, &values);
-    note("XChangeGC(function %u, plane_mask 0x%02X, foreground 0x%02X, cap_style %s)\n", d->code, d->mask, d->fore,
-         not_last ? "CapNotLast" : "CapButt");
+    values.line_style = LineSolid;
+    XChangeGC(s->display, s->gc, GCFunction | GCPlaneMask | GCForeground | GCCapStyle | GCLineStyle, &values);
+    note("XChangeGC(function %u, plane_mask 0x%02X, foreground 0x%02X, cap_style %s, line_style LineSolid)\n", d->code,
+         d->mask, d->fore, not_last ? "CapNotLast" : "CapButt");
+}
+
+static int period(const dashes *p)
+{
+    return p->length * p->scale;
+}
+
+/* the phase so many pixels later, or earlier where they are below zero */
+static int phase_after(const dashes *p, int pixels)
+{
+    return ((p->phase + pixels) % period(p) + period(p)) % period(p);
+}
+
+/* n of a line of n + 1 pixels */
+static int steps_of(const drawing *d)
+{
+    return greatest(abs(d->b.x - d->a.x), abs(d->b.y - d->a.y));
+}
+
+/* by how many pixels the line moves the pattern */
+static int moves(const drawing *d)
+{
+    return is_dashed(d) ? steps_of(d) + !d->nlst : 0;
+}
+
+/* the pattern's bit at pixel j of the line that X draws */
+static bool dash_bit(const drawing *d, int j)
+{
+    const int place = phase_after(&d->dashes, d->backwards ? steps_of(d) - j : j) / d->dashes.scale;
+    return d->dashes.bits >> place & 1;
+}
+
+/* The runs of equal bits in a period that begins with a run of ones, and where in it the line begins. There are none
+ * where all bits are equal. */
+static int dash_list(const drawing *d, uint8_t *runs, int *offset)
+{
+    const int whole = period(&d->dashes);
+    int first = 0, count = 0;
+    while (first < whole && (dash_bit(d, first - 1) || !dash_bit(d, first)))
+        first++;
+    if (first == whole)
+        return 0;
+    for (int j = first; j < first + whole; j++) {
+        if (dash_bit(d, j) != dash_bit(d, j - 1))
+            runs[count++] = 0;
+        runs[count - 1]++;
+    }
+    *offset = whole - first;
+    return count;
+}
+
+/* Gives the GC the dashes of a line, or the colour of equal bits; false where these draw nothing. */
+static bool set_dashes(const server *s, const drawing *d)
+{
+    XGCValues values = {.line_style = d->trnsp ? LineOnOffDash : LineDoubleDash, .background = d->back};
+    uint8_t runs[32];
+    int offset;
+    const int count = dash_list(d, runs, &offset);
+    if (count == 0) {
+        values.foreground = dash_bit(d, 0) ? d->fore : d->back;
+        XChangeGC(s->display, s->gc, GCForeground, &values);
+        note("XChangeGC(foreground 0x%02lX)\n", values.foreground);
+        return dash_bit(d, 0) || !d->trnsp;
+    }
+    XChangeGC(s->display, s->gc, GCLineStyle | GCBackground, &values);
+    XSetDashes(s->display, s->gc, offset, (const char *)runs, count);
+    note("XChangeGC(line_style %s, background 0x%02X)\nXSetDashes(%d, {", d->trnsp ? "LineOnOffDash" : "LineDoubleDash",
+         d->back, offset);
+    for (int k = 0; k < count; k++)
+        note(" %u", runs[k]);
+    note(" }, %d)\n", count);
+    return true;
 }
 
 static void x_fill(const server *s, const drawing *d)
@@ -290,6 +393,8 @@ static void x_copy(const server *s, const drawing *d)
 static void x_line(const server *s, const drawing *d)
 {
     const point p = d->backwards ? d->b : d->a, q = d->backwards ? d->a : d->b;
+    if (is_dashed(d) && !set_dashes(s, d))
+        return;
     XDrawLine(s->display, s->buffers[d->destination], s->gc, p.x, p.y, q.x, q.y);
     note("XDrawLine(pixmap %u, %d, %d, %d, %d)\n", d->destination, p.x, p.y, q.x, q.y);
 }
@@ -306,11 +411,8 @@ static void put(const server *s, unsigned k)
     XDestroyImage(image);
 }
 
-static void x_draw(const server *s, const drawing *d)
+static void x_one(const server *s, const drawing *d)
 {
-    calls[0] = 0;
-    for (unsigned k = 0; k < 2; k++)
-        put(s, k);
     set_gc(s, d);
     set_clip(s, d);
     if (d->opcode != BITBLT)
@@ -319,6 +421,16 @@ static void x_draw(const server *s, const drawing *d)
         x_fill(s, d);
     else
         x_copy(s, d);
+}
+
+static void x_draw(const server *s, const drawing *d)
+{
+    calls[0] = 0;
+    for (unsigned k = 0; k < 2; k++)
+        put(s, k);
+    if (d->before)
+        x_one(s, d->before);
+    x_one(s, d);
 }
 
 /* comparing */
@@ -502,7 +614,7 @@ static void fill(drawing *d)
 {
     random_blit(d);
     d->solid = true;
-    d->ignored = (uint32_t)random64() & (TRNSP | SOURCE);
+    d->unread = (uint32_t)random64() & (TRNSP | SOURCE);
 }
 
 static bool overlaps(const drawing *d)
@@ -588,7 +700,7 @@ static void line(drawing *d)
 {
     d->opcode = LINE;
     d->solid = true;
-    d->ignored = (uint32_t)random64() & (TRNSP | STPL | PRST);
+    d->unread = (uint32_t)random64() & (TRNSP | STPL | PRST);
     random_ends(d);
 }
 
@@ -603,6 +715,57 @@ static void polyline(drawing *d)
     line(d);
     d->opcode = PLINE;
     d->nlst = one_in(2);
+}
+
+static dashes random_dashes(void)
+{
+    dashes p = {(uint32_t)random64(), between(1, 32), between(1, 8), 0};
+    if (one_in(4))
+        p.bits = 1u << between(0, 31);
+    if (one_in(4))
+        p.bits = ~p.bits;
+    p.phase = between(0, period(&p) - 1);
+    return p;
+}
+
+/* makes a line dashed */
+static void opaque(drawing *d)
+{
+    d->solid = false;
+    d->unread = (uint32_t)random64() & PRST;
+    d->dashes = random_dashes();
+}
+
+static void transparent(drawing *d)
+{
+    opaque(d);
+    d->trnsp = true;
+}
+
+static void either(drawing *d)
+{
+    opaque(d);
+    d->trnsp = one_in(2);
+}
+
+/* A line after a first one, with the same registers but CMD and ends. It goes on with the pattern or, with PRST, begins
+ * it again. */
+static drawing second_line(drawing *first)
+{
+    drawing d = *first;
+    random_ends(&d);
+    d.opcode = one_in(2) ? LINE : PLINE;
+    if (d.opcode == PLINE)
+        d.a = first->b;
+    d.solid = false;
+    d.trnsp = one_in(2);
+    d.nlst = one_in(2);
+    d.clipped = first->clipped && one_in(2);
+    d.unread = one_in(8) ? PRST : 0;
+    if (!d.unread)
+        d.dashes.phase = phase_after(&first->dashes, moves(first));
+    d.before = first;
+    return d;
 }
 
 static bool minor_grows(const drawing *d)
@@ -627,7 +790,8 @@ static bool has_halfway_point(const drawing *d)
 typedef struct kind {
     const char *name;
     void (*make)(drawing *);
-    bool biased;
+    void (*dash)(drawing *);
+    bool two, biased;
     unsigned long cases, pixels, changed, differences;
 } kind;
 
@@ -641,18 +805,48 @@ static kind kinds[] = {
     {.name = "PLINE SOLID, XDrawLine", .make = polyline},
     {.name = "LINE SOLID, line bias 27", .make = line, .biased = true},
     {.name = "LINE SOLID NLST, line bias 27", .make = line_not_last, .biased = true},
+    {.name = "LINE STPL, LineDoubleDash", .make = line, .dash = opaque},
+    {.name = "LINE STPL TRNSP, LineOnOffDash", .make = line, .dash = transparent},
+    {.name = "LINE STPL NLST, both styles", .make = line_not_last, .dash = either},
+    {.name = "PLINE STPL, both styles", .make = polyline, .dash = either},
+    {.name = "two lines STPL, both styles", .make = polyline, .dash = either, .two = true},
+    {.name = "LINE STPL, line bias 27", .make = line, .dash = opaque, .biased = true},
+    {.name = "LINE STPL TRNSP, line bias 27", .make = line, .dash = transparent, .biased = true},
+    {.name = "LINE STPL NLST, line bias 27", .make = line_not_last, .dash = either, .biased = true},
+    {.name = "PLINE STPL, line bias 27", .make = polyline, .dash = either, .biased = true},
+    {.name = "two lines STPL, line bias 27", .make = polyline, .dash = either, .two = true, .biased = true},
 };
 
 enum { KINDS = sizeof kinds / sizeof kinds[0] };
 
-static void compare_case(const server *s, kind *k, unsigned code, unsigned mask, unsigned style)
+static drawing random_drawing(const kind *k, unsigned code, unsigned mask, unsigned style)
 {
     drawing d = {.code = code, .mask = mask, .clipped = style != NO_CLIP};
     d.clip = random_clip(d.clipped ? style : (unsigned)between(INSIDE, FAR));
     d.fore = (unsigned)between(0, 255);
+    d.back = (unsigned)between(0, 255);
     d.destination = (unsigned)between(0, 1);
     k->make(&d);
-    d.backwards = d.opcode != BITBLT && (s->biased ? one_in(2) : minor_grows(&d));
+    if (k->dash)
+        k->dash(&d);
+    return d;
+}
+
+static bool in_x_backwards(const server *s, const drawing *d)
+{
+    return d->opcode != BITBLT && (s->biased ? one_in(2) : minor_grows(d));
+}
+
+static void compare_case(const server *s, kind *k, unsigned code, unsigned mask, unsigned style)
+{
+    drawing d = random_drawing(k, code, mask, style), first;
+    d.backwards = in_x_backwards(s, &d);
+    if (k->two) {
+        first = d;
+        first.solid = one_in(8);
+        d = second_line(&first);
+        d.backwards = in_x_backwards(s, &d);
+    }
     const difference found = compare(s, &d, &d);
     k->cases++;
     k->pixels += 2ul * width * height;
@@ -717,14 +911,30 @@ static void must_differ(const server *s, tally *t, const drawing *by_engine, con
     expect(t, compare(s, by_engine, by_x).pixels > 0);
 }
 
+/* Gives the line a pattern of a one and zeros and begins it with the one; a line before it begins earlier by as much as
+ * it moves the pattern. The bits above the length are random. */
+static void begin_with_one(drawing *d, int length, int scale)
+{
+    d->dashes = (dashes){(uint32_t)(random64() << length | 1), length, scale, 0};
+    if (d->before) {
+        d->before->dashes = d->dashes;
+        d->before->dashes.phase = phase_after(&d->dashes, -moves(d->before));
+    }
+}
+
 /* a drawing of the kind whose pixels reach every side of its clip */
 static drawing sample(const kind *k)
 {
     drawing d = {0};
     k->make(&d);
-    d.code = GXcopy;
+    if (k->dash) {
+        k->dash(&d);
+        d.unread = 0;
+    }
+    d.code = GXxor;
     d.mask = 0xFF;
     d.fore = 0x55;
+    d.back = 0xAA;
     d.nlst = k->make == line_not_last;
     d.source = k->make == copy_between;
     d.destination = 0;
@@ -794,7 +1004,7 @@ static void wrong_places(const server *s, tally *t, const drawing *d)
         wrongs[count++].height--;
     } else
         wrongs[count++].nlst ^= true;
-    if (d->solid)
+    if (d->solid || d->opcode != BITBLT)
         wrongs[count++].fore ^= 1;
     if (!d->solid || d->opcode != BITBLT) {
         wrongs[count++].a.x++;
@@ -804,13 +1014,45 @@ static void wrong_places(const server *s, tally *t, const drawing *d)
         must_differ(s, t, d, &wrongs[k]);
 }
 
+/* the pattern one pixel late or early, its bits in the reverse order, another scale, TRNSP more or less, another
+ * background */
+static void wrong_dashes(const server *s, tally *t, drawing d)
+{
+    for (int k = 0; k < 31 * 8; k++) {
+        drawing wrongs[6];
+        unsigned count = 0;
+        begin_with_one(&d, 2 + k / 8, 1 + k % 8);
+        d.backwards = one_in(2);
+        for (unsigned j = 0; j < 6; j++)
+            wrongs[j] = d;
+        wrongs[count++].dashes.phase = phase_after(&d.dashes, 1);
+        wrongs[count++].dashes.phase = phase_after(&d.dashes, -1);
+        wrongs[count++].dashes.bits = 1u << (d.dashes.length - 1);
+        wrongs[count++].dashes.scale = d.dashes.scale % 8 + 1;
+        wrongs[count++].trnsp ^= true;
+        if (!d.trnsp)
+            wrongs[count++].back ^= 1;
+        for (unsigned j = 0; j < count; j++)
+            must_differ(s, t, &d, &wrongs[j]);
+    }
+}
+
 static void wrong_kind(const server *s, const kind *k, tally *t)
 {
-    const drawing d = sample(k);
+    drawing d = sample(k), first = d;
+    if (k->two) {
+        first.a = (point){-20, -20};
+        first.b = d.a;
+        d.before = &first;
+    }
+    if (k->dash)
+        begin_with_one(&d, 2, 1); /* every second pixel, those at the sides of the clip among them */
     wrong_codes(s, t, d);
     wrong_masks(s, t, d);
     wrong_clips(s, t, d);
     wrong_places(s, t, &d);
+    if (k->dash)
+        wrong_dashes(s, t, d);
 }
 
 /* copies over their source in the directions that read what was written */
@@ -841,6 +1083,37 @@ static void wrong_ways(const server *s, tally *halfway, tally *others)
     }
 }
 
+/* Lines that begin hidden, and lines after a hidden one, drawn in X as if no hidden pixel moved the pattern. The one
+ * begins at the first pixel in sight, so they agree only where the hidden pixels are whole periods. */
+static void hidden_dashes(const server *s, tally *parts, tally *whole)
+{
+    for (unsigned k = 0; k < 3000; k++) {
+        const int hidden = between(1, 40), right = (int)width - 1, bottom = (int)height - 1;
+        drawing first = {.opcode = LINE, .code = GXxor, .mask = 0xFF, .fore = 0x55, .back = 0xAA}, d = first;
+        d.trnsp = one_in(2);
+        d.a.y = between(0, bottom);
+        d.b = (point){right, between(0, bottom)};
+        if (k % 3 == 0) {
+            d.clipped = true;
+            d.clip = (box){hidden, 0, right, bottom};
+        } else if (k % 3 == 1)
+            d.a.x = -hidden;
+        else {
+            first.a.x = -hidden;
+            first.b.x = -1;
+            d.before = &first;
+        }
+        d.backwards = minor_grows(&d);
+        begin_with_one(&d, between(2, 32), between(1, 8));
+        if (!d.before)
+            d.dashes.phase = phase_after(&d.dashes, -hidden);
+        drawing e = d;
+        e.dashes.phase = phase_after(&d.dashes, -hidden);
+        const bool same = hidden % period(&d.dashes) == 0;
+        expect(same ? whole : parts, (compare(s, &d, &e).pixels == 0) == same);
+    }
+}
+
 static void print_tally(const tally *t)
 {
     printf("%-57s %8lu %8lu\n", t->name, t->cases, t->met);
@@ -851,6 +1124,8 @@ static void compare_wrong(server *servers)
     tally direction = {"BITBLT over its source, the other direction: differs", 0, 0};
     tally halfway = {"LINE with a halfway point, the other way: differs", 0, 0};
     tally others = {"LINE without a halfway point, the other way: agrees", 0, 0};
+    tally parts = {"STPL, pattern not moved by hidden pixels: differs", 0, 0};
+    tally whole = {"STPL, the same where they are whole periods: agrees", 0, 0};
     set_board(servers, 64, 48);
     printf("\n%-57s %8s %8s\n", "expectation", "cases", "met");
     for (unsigned k = 0; k < KINDS; k++) {
@@ -862,9 +1137,12 @@ static void compare_wrong(server *servers)
     }
     wrong_directions(&servers[0], &direction);
     wrong_ways(&servers[0], &halfway, &others);
+    hidden_dashes(&servers[0], &parts, &whole);
     print_tally(&direction);
     print_tally(&halfway);
     print_tally(&others);
+    print_tally(&parts);
+    print_tally(&whole);
 }
 
 static void print_kind(const kind *k)
