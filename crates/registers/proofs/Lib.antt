@@ -1,3 +1,4 @@
 pub mod Writes
 pub mod Moves
+pub mod Rounds
 pub mod Examples

@@ -40,7 +40,8 @@ StaysInRange =
     (word : ℕ) (p : Pattern) → inRange (patternControlOf word) p ≡ true
     → inRange (patternControlOf word) (nextOf (patternControlOf word) p) ≡ true
 
--- Many moves are one sum: n more pixels, of which each `scale` move the place by one, round the length.
+-- Many moves are one sum: of n more pixels each `scale` move the place by one, round the length; proved in
+-- proofs/Rounds.antt.
 abbrev pub MovesInOneGo : Type 0
 MovesInOneGo =
     (c : PatternControl) (n : ℕ) (p : Pattern) → inRange c p ≡ true

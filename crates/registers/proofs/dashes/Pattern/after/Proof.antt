@@ -2,7 +2,7 @@ use Prim.Native.Nat.{_+_, _/_}
 use native.Mathlib.Nat.{div-le-self}
 use native.Mathlib.Omega.{arith}
 use borrow.Author.Needs.{needs}
-use Rattle.registers.proofs.Moves.{moves-none, turned-small, after-within, after-rounds}
+use Rattle.registers.proofs.Rounds.{moves-none, turned-small, after-within, after-rounds}
 use Rattle.registers.proofs.dashes.Pattern.after.Statement.{statement}
 use Rattle.registers.proofs.dashes.Pattern.after.Tie as tie
 
