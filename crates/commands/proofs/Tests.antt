@@ -1,12 +1,11 @@
 -- What a command's decoded fields say of the definitions: the kind, the visit, the clip and the source.
 -- Assumes nothing.
-use mathlib.Core.Path.{_≡_, ap, ap₂, sym, _∙_}
-use mathlib.Core.Bool.{Bool, true, false, not, cond, _&&_, _||_, and-true}
+use mathlib.Core.Path.{_≡_, refl, ap, ap₂, sym, _∙_}
+use mathlib.Core.Bool.{Bool, true, false, not, cond, _&&_, _||_}
 use mathlib.Core.List.{List}
 use Prim.Native.Nat.{ℕ}
-use borrow.Author.Tests.{eqb-true, eq-eqb, ne-eqb}
+use borrow.Author.Tests.{eq-eqb, ne-eqb}
 use lib.Dec.{eqb}
-use Rattle.lemmas.proofs.Booleans.{by-cases}
 use Rattle.geometry.specs.Coordinates.{pointOf}
 use Rattle.geometry.specs.Clip.{rectOf, inRect, placeOf}
 use Rattle.geometry.specs.Line.{lineCount}
@@ -59,20 +58,20 @@ module _ (e : Engine) (c : Command) (p : c ≡ commandIn e) where
       ap₂ (λ (c : Command) t. eqb number 12 && (eqb (c .opcode) 1 || t) && eqb (countOf e) 0) (sym p) (ap isLine (sym p) ∙ sym q)
       ∙ ap (λ n. eqb number 12 && (eqb (c .opcode) 1 || t) && n) (sym r) ∙ h
 
-  pub empty-is : (t blit line : Bool) → t ≡ isLine c → blit ≡ eqb (blitCount (e .registers .xy2)) 0
-      → line ≡ eqb (lineCount (pointOf (lineStart e)) (pointOf (e .registers .xy1)) (c .nlst)) 0
-      → ((not (eqb (c .opcode) 1) || blit) && (not t || line)) ≡ eqb (countOf e) 0
+  pub empty-blit : c .opcode ≡ 1 → (n : ℕ) → n ≡ blitCount (e .registers .xy2) → eqb n 0 ≡ eqb (countOf e) 0
   unfolding countOf
-  empty-is t blit line q f g =
-      rw (q, f, g, p)
-      (by (commandIn e .opcode) (blitCount (e .registers .xy2)) (lineCount (pointOf (lineStart e)) (pointOf (e .registers .xy1)) (commandIn e .nlst)))
+  empty-blit h n q = rw (opcode-yes 1 h, q)
+
+  pub empty-line : (c .opcode ≡ 1 → ⊥) → (t line : Bool) → t ≡ isLine c
+      → line ≡ eqb (lineCount (pointOf (lineStart e)) (pointOf (e .registers .xy1)) (c .nlst)) 0
+      → (not t || line) ≡ eqb (countOf e) 0
+  unfolding countOf
+  empty-line h t line q g =
+      rw (opcode-no 1 h, g, q, p) (by (isLine (commandIn e)) (lineCount (pointOf (lineStart e)) (pointOf (e .registers .xy1)) (commandIn e .nlst)))
     where
-      by : (opcode n m : ℕ)
-          → ((not (eqb opcode 1) || eqb n 0) && (not (eqb opcode 2 || eqb opcode 5) || eqb m 0))
-          ≡ eqb (cond (eqb opcode 1) n (cond (eqb opcode 2 || eqb opcode 5) m 0)) 0
-      by opcode n m =
-          by-cases (eqb opcode 1) (λ t. rw (eqb-true opcode 1 t) (and-true (eqb n 0)))
-          (λ t. rw t (by-cases (eqb opcode 2 || eqb opcode 5) (λ s. rw s) (λ s. rw s)))
+      by : (t : Bool) (n : ℕ) → (not t || eqb n 0) ≡ eqb (cond t n 0) 0
+      by true n = refl
+      by false n = refl
 
   pub dash-is : (t : Bool) → t ≡ isLine c → (b : Bool) → (t && not (c .solid)) ≡ b → inDashes (commandIn e) ≡ b
   dash-is t q b h = ap₂ (λ (c : Command) t. t && not (c .solid)) (sym p) (ap isLine (sym p) ∙ sym q) ∙ h

@@ -14,7 +14,6 @@ use entries::pattern_control_of;
 use geometry::Place;
 use geometry::Visit;
 use geometry::blit_count;
-use geometry::blit_is_empty;
 use geometry::blit_visit;
 use geometry::line_count;
 use geometry::line_is_empty;
@@ -109,9 +108,12 @@ impl Engine {
     {
         let g = self.registers;
         let c = command_of(g.cmd);
+        if c.opcode == 1 {
+            return blit_count(g.xy2) == 0;
+        }
         let line = is_line(c);
         let start = self.line_start();
-        ((c.opcode != 1) | blit_is_empty(g.xy2)) & (!line | line_is_empty(start, g.xy1, c.nlst))
+        !line | line_is_empty(start, g.xy1, c.nlst)
     }
 
     // Where its visit k lies.

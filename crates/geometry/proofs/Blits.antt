@@ -1,14 +1,12 @@
 -- The column and the row of a blit's visit, and what they do to a coordinate in whole numbers.
 -- Assumes nothing.
-use mathlib.Core.Path.{_≡_, ap, ap₂, sym, _∙_}
-use mathlib.Core.Bool.{Bool, true, false, _||_}
+use mathlib.Core.Path.{_≡_, ap₂, sym, _∙_}
+use mathlib.Core.Bool.{Bool, true, false}
 use Prim.Native.Nat.{ℕ, zero, suc, _+_, _-_, _*_, _/_, _%_, _≤_, _<_}
-use native.Mathlib.Nat.{mul-le-mul, mul-pos, mul-zero, zero-mul, mul-comm, mod-lt, div-lt-iff-lt-mul}
+use native.Mathlib.Nat.{mul-le-mul, zero-mul, mul-comm, mod-lt, div-lt-iff-lt-mul}
 use native.Mathlib.Omega.{arith}
-use borrow.Author.Tests.{eqb-true, eqb-false, ltb-true, ltb-false, eq-eqb, ne-eqb, lt-ltb, le-ltb}
-use lib.Dec.{eqb, ltb}
+use borrow.Author.Tests.{lt-ltb, le-ltb}
 use lib.IntN.{_+ℤ_, _-ℤ_}
-use Rattle.lemmas.proofs.Booleans.{by-cases}
 use Rattle.geometry.specs.Coordinates.{origin, wholeOf, signed16, coordinateOf, pointOf}
 use Rattle.geometry.specs.Blit.{widthOf, heightOf, blitCount, bottomToTop, rightToLeft, away, awayZ, blitPoint, blitVisit, NeverWraps}
 use Rattle.geometry.specs.declared.Point.{Point}
@@ -31,18 +29,6 @@ column-lt w h k l = mod-lt k (factor-pos w h k l)
 
 pub row-lt : (w h k : ℕ) → k < w * h → k / w < h
 row-lt w h k l = div-lt-iff-lt-mul (factor-pos w h k l) .1 (omega (arith, mul-comm w h))
-
-pub blit-empty : (size : ℕ) → (ltb size 65536 || eqb (size % 65536) 0) ≡ eqb (blitCount size) 0
-blit-empty size =
-    by-cases (ltb size 65536)
-    (λ t. rw t (sym (eq-eqb (blitCount size) 0 (ap (λ (w : ℕ). w * heightOf size) (omega (arith, ltb-true size 65536 t)) ∙ zero-mul (heightOf size)))))
-    (λ t.
-    rw t
-    (by-cases (eqb (size % 65536) 0)
-    (λ s. s ∙ sym (eq-eqb (blitCount size) 0 (ap (λ (h : ℕ). widthOf size * h) (eqb-true (size % 65536) 0 s) ∙ mul-zero (widthOf size))))
-    (λ s.
-    let tall : 0 < heightOf size = omega (arith, eqb-false (size % 65536) 0 s) in
-    s ∙ sym (ne-eqb (blitCount size) 0 (λ e. omega (arith, e, mul-pos {m = widthOf size} (omega (arith, ltb-false size 65536 t)) tall))))))
 
 -- a coordinate out of a register, moved by less than 65,536
 moves : (back : Bool) (h k : ℕ) → h < 65536 → k < 65536 → wholeOf (away back (coordinateOf h) k) ≡ awayZ back (signed16 h) k

@@ -213,13 +213,6 @@ pub fn blit_count(size: u32) -> usize
     ((size / 65536) as usize) * ((size % 65536) as usize)
 }
 
-// Whether a blit visits no pixel.
-pub fn blit_is_empty(size: u32) -> bool
-    ensures { λ r. ⌜ r ≡ eqb (blitCount size) 0 ⌝ }
-{
-    (size < 65536) | (size % 65536 == 0)
-}
-
 // The coordinate k pixels from c, up or back.
 fn moved(back: bool, c: usize, k: usize) -> usize
     requires { ⌜ (k ≤ c) × (c < 131072) × (k < 65536) ⌝ }
