@@ -2,7 +2,7 @@
 -- Assumes nothing.
 use mathlib.Core.Path.{_≡_}
 use Prim.Native.Nat.{ℕ, _+_, _-_, _*_, _^_, _/_, _≤_, _<_}
-use native.Mathlib.Nat.{mul-le-mul, div-add-mod}
+use native.Mathlib.Nat.{mul-comm, mul-le-mul, div-add-mod}
 use native.Mathlib.Omega.{arith}
 use mathlib.Core.Bool.{_&&_}
 use borrow.Author.Tests.{leb-true, leb-false}
@@ -10,10 +10,13 @@ use lib.Dec.{leb}
 use Rattle.lemmas.proofs.Booleans.{by-cases}
 use Rattle.rows.proofs.Fitting.{fits-by, fits-not}
 use Rattle.geometry.specs.Coordinates.{pointOf}
+use Rattle.blits.specs.Blits.{sourcePixels}
+use Rattle.blits.specs.declared.Paint.{Paint}
+use Rattle.blits.specs.declared.Paint.the-variants.{Solid, Copied, Moved, Stippled, StippledWithin}
 
-pub product-small : (a b : ℕ) → a < 262144 → b < 2 ^ 32 → a * b < 2 ^ 50
+pub product-small : (a b : ℕ) → a < 262144 → b < 2 ^ 35 → a * b < 2 ^ 53
 product-small a b h k =
-    let most : a * b ≤ 262143 * 4294967295 = mul-le-mul {n₁ = a} {m₁ = b} {n₂ = 262143} {m₂ = 4294967295} (omega arith) (omega arith) in
+    let most : a * b ≤ 262143 * 34359738367 = mul-le-mul {n₁ = a} {m₁ = b} {n₂ = 262143} {m₂ = 34359738367} (omega arith) (omega arith) in
     omega arith
 
 pub x-below : (word : ℕ) → pointOf word .x < 131072
@@ -35,8 +38,16 @@ fits-in first n count =
 pub div-fits : (n w : ℕ) → w * (n / w) ≤ n
 div-fits n w = omega (arith, div-add-mod n w)
 
--- one row past the end of a buffer
-pub area-far : (width height : ℕ) → width < 2 ^ 32 → height < 2 ^ 32 → width * height + width < 18446744073709551616
-area-far width height h k =
-    let most : width * height ≤ 4294967295 * 4294967295 = mul-le-mul {n₁ = width} {m₁ = height} {n₂ = 4294967295} {m₂ = 4294967295} (omega arith) (omega arith) in
-    omega arith
+-- the width of a source
+pub source-small : (paint : Paint) (width : ℕ) → width < 2 ^ 32 → sourcePixels paint width < 2 ^ 35
+source-small (Solid pen) width h = omega arith
+source-small (Copied mix) width h = omega arith
+source-small (Moved mix) width h = omega arith
+source-small (Stippled s) width h = omega arith
+source-small (StippledWithin s) width h = omega arith
+
+-- so many rows from a place on
+pub rows-far : (width y e rows : ℕ) → width < 2 ^ 35 → y < 262144 → e < 262144 → rows ≤ 65536
+    → y * width + e + width * rows < 18446744073709551616
+rows-far width y e rows wide high h k =
+    omega (arith, product-small y width high wide, product-small rows width (omega arith) wide, mul-comm width rows)

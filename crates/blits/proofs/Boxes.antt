@@ -1,7 +1,7 @@
 -- The visits of a blit's rows are a box of columns and rows, painted row after row.
 -- Assumes nothing.
 use mathlib.Core.Path.{_≡_, refl, ap, ap₂, sym, subst, _∙_}
-use mathlib.Core.Bool.{Bool, true, false}
+use mathlib.Core.Bool.{Bool, true, false, false≢true}
 use mathlib.Core.List.{List}
 use mathlib.Core.Logic.{_⊎_, ⊎-elim}
 use Prim.Native.Nat.{ℕ, suc, _+_, _-_, _*_, _≤_, _<_, min, max}
@@ -16,17 +16,17 @@ use Rattle.lemmas.proofs.Turns.{turn-none, turn-more, turn-agree, turn-idle}
 use Rattle.geometry.specs.Coordinates.{origin, pointOf}
 use Rattle.geometry.specs.Blit.{widthOf, heightOf, bottomToTop, rightToLeft, away}
 use Rattle.rows.specs.Rows.{sweep}
-use Rattle.blits.specs.Blits.{reads, visited, seenColumns, seenRows, partOf, rowOf, rowAt, leftEdge, placeAt, boxOf, Fitting, RowFits, BoxFits}
+use Rattle.blits.specs.Blits.{reads, sourcePixels, sourceWidth, visited, seenColumns, seenRows, partOf, targetRow, sourceRow, rowOf, rowAt, leftEdge, placeAt, boxOf, Fitting, RowFits, RowsFit, BoxFits}
 use Rattle.blits.specs.declared.Blit.{Blit}
 use Rattle.blits.specs.declared.Paint.{Paint}
 use Rattle.blits.specs.declared.Span.{Span}
-use Rattle.blits.proofs.Bounds.{area-far}
+use Rattle.blits.proofs.Bounds.{source-small, rows-far, x-below, y-below}
 use Rattle.blits.proofs.Sweeping.{turn-part, turn-rows}
 use Rattle.blits.proofs.Spans.{y-from}
 use Rattle.blits.proofs.Loops.{row-below}
 use Rattle.blits.proofs.Rowwise.{RowIn, row-of, row-by}
 use Rattle.blits.proofs.Drawn.{from-least, past-most, before-from, after-past}
-use Rattle.blits.proofs.Rooms.{Inside, inside-of, z-small, none-in-row, none-in-columns, target-room, source-room, whole-row}
+use Rattle.blits.proofs.Rooms.{edge-below, away-below, Inside, inside-of, z-small, none-in-row, none-in-columns, target-room, source-room, whole-row}
 
 -- a row of no pixels
 no-pixels : (paint : Paint) (back : Bool) (other : List ℕ) (at from : ℕ) (l : List ℕ) → rowOf paint back other at from 0 l ≡ l
@@ -41,33 +41,40 @@ module _ (paint : Paint) (width to from direction : ℕ) (across down : Span) (o
   abbrev target : ℕ
   target = placeAt to width direction (across .from) (across .past) (down .from)
 
-  abbrev source : ℕ
-  source = placeAt from width direction (across .from) (across .past) (down .from)
+  abbrev stride : ℕ
+  stride = sourcePixels paint width
 
-  abbrev rows : ℕ → ℕ → ℕ → ℕ → List ℕ
-  rows at from n k = inTurn (rowAt paint (rightToLeft direction) (bottomToTop direction) width other at from n) k l
+  abbrev source : ℕ
+  source = placeAt from stride direction (across .from) (across .past) (down .from)
+
+  abbrev rows : ℕ → ℕ → ℕ → ℕ → ℕ → List ℕ
+  rows apart at from n k = inTurn (rowAt paint (rightToLeft direction) (bottomToTop direction) width apart other at from n) k l
 
   pub no-columns : across .past ≤ across .from → l ≡ boxOf paint width to from direction across down other l
   unfolding boxOf
   no-columns h =
       sym
-      (turn-idle (rowAt paint (rightToLeft direction) (bottomToTop direction) width other target source (across .past - across .from))
+      (turn-idle (rowAt paint (rightToLeft direction) (bottomToTop direction) width stride other target source (across .past - across .from))
       (down .past - down .from) l
       (λ k p t.
-      row-none paint (rightToLeft direction) other (away (bottomToTop direction) target (width * k)) (away (bottomToTop direction) source (width * k))
+      row-none paint (rightToLeft direction) other (away (bottomToTop direction) target (width * k)) (away (bottomToTop direction) source (stride * k))
       (across .past - across .from) t (omega arith)))
 
   pub no-rows : down .past ≤ down .from → l ≡ boxOf paint width to from direction across down other l
   unfolding boxOf
   no-rows h =
       let none : 0 ≡ down .past - down .from = omega arith in
-      turn-none (rowAt paint (rightToLeft direction) (bottomToTop direction) width other target source (across .past - across .from)) l
-      ∙ ap (rows target source (across .past - across .from)) none
+      turn-none (rowAt paint (rightToLeft direction) (bottomToTop direction) width stride other target source (across .past - across .from)) l
+      ∙ ap (rows stride target source (across .past - across .from)) none
 
-  pub box-painted : (at start : ℕ) (k : List ℕ) → at ≡ target → start ≡ source → k ≡ rows at start (across .past - across .from) (down .past - down .from)
-      → k ≡ boxOf paint width to from direction across down other l
+  pub box-painted : (apart at start : ℕ) (k : List ℕ) → apart ≡ stride → at ≡ target
+      → start ≡ placeAt from apart direction (across .from) (across .past) (down .from)
+      → k ≡ rows apart at start (across .past - across .from) (down .past - down .from) → k ≡ boxOf paint width to from direction across down other l
   unfolding boxOf
-  box-painted at start k p q e = e ∙ ap₂ (λ at start. rows at start (across .past - across .from) (down .past - down .from)) p q
+  box-painted apart at start k s p q e =
+      let n = across .past - across .from in
+      e ∙ ap₂ (λ at start. rows apart at start n (down .past - down .from)) p q
+      ∙ ap (λ apart. rows apart target (placeAt from apart direction (across .from) (across .past) (down .from)) n (down .past - down .from)) s
 
 -- rows k apart are width * k apart in a buffer
 moved-down : (width y e t k o : ℕ) → o ≤ y + t → (y + t - o) * width + e + width * k ≡ (y + (t + k) - o) * width + e
@@ -92,6 +99,38 @@ moved-on : (up : Bool) (width y e t k : ℕ) → 65536 ≤ y → t + k < 65536 �
     → away up ((away up y t - origin) * width + e) (width * k) ≡ (away up y (t + k) - origin) * width + e
 moved-on true width y e t k high small p q = moved-up width y e t k origin q (omega arith)
 moved-on false width y e t k high small p q = moved-down width y e t k origin p
+
+-- rows at or below the origin are no further up than a place
+climbed : (up : Bool) (width y e t k : ℕ) → origin ≤ away up y (t + k) → up ≡ true → width * k ≤ (away up y t - origin) * width + e
+climbed true width y e t k h u =
+    omega (arith, mul-le-mul-left {m = k} {n = y - t - origin} width (omega arith), mul-comm width (y - t - origin))
+climbed false width y e t k h u = absurd (false≢true u)
+
+-- the rows from `top` to before `bottom` of a blit that starts at a corner, where none is above the origin
+module _ (corner width direction a z top bottom : ℕ) (small : (k : ℕ) → k < bottom - top → top + k < 65536)
+    (seen : (k : ℕ) → k < bottom - top → origin ≤ away (bottomToTop direction) (pointOf corner .y) (top + k)) where
+  abbrev edge : ℕ
+  edge = leftEdge (rightToLeft direction) (pointOf corner .x) a z
+
+  row-on : (k : ℕ) → k < bottom - top
+      → away (bottomToTop direction) (placeAt corner width direction a z top) (width * k) ≡ placeAt corner width direction a z (top + k)
+  row-on k h =
+      let same : top + 0 ≡ top = omega arith in
+      let first = subst (λ r. origin ≤ away (bottomToTop direction) (pointOf corner .y) r) same (seen 0 (omega arith)) in
+      moved-on (bottomToTop direction) width (pointOf corner .y) (edge - origin) top k (y-from corner) (small k h) first (seen k h)
+
+  rows-fit : (size : ℕ) → width < 34359738368 → a < 65536 → top < bottom → bottom ≤ 65536
+      → ((k : ℕ) → k < bottom - top → placeAt corner width direction a z (top + k) + (z - a) ≤ size)
+      → RowsFit (bottomToTop direction) width (placeAt corner width direction a z top) (z - a) (bottom - top) size
+  rows-fit size wide narrow some low room =
+      let y = away (bottomToTop direction) (pointOf corner .y) top in
+      let y-small : y < 262144 = away-below (bottomToTop direction) (pointOf corner .y) top (y-below corner) (omega arith) in
+      let x-small : edge < 262144 = edge-below (rightToLeft direction) (pointOf corner .x) a z (x-below corner) narrow in
+      record {
+        within = λ k h. rw (row-on k h) (room k h);
+        above = λ u k h. climbed (bottomToTop direction) width (pointOf corner .y) (edge - origin) top k (seen k h) u;
+        far = rows-far width (y - origin) (edge - origin) (bottom - top) wide (omega (arith, y-small)) (omega (arith, x-small)) (omega arith);
+      }
 
 -- how many of the rows from `row` on are from p to before q
 counted : (row rows p q : ℕ) → row ≤ p → q ≤ row + rows → min rows (q - row) - (p - row) ≡ q - p
@@ -135,72 +174,66 @@ module _ (b : Blit) (other : List ℕ) (row rows c m own : ℕ) (fits : (r : ℕ
     row-in : RowIn b (top + k)
     row-in = row-of b (top + k) (row-fits .row-small) (omega (arith, starts)) (omega (arith, ends, h))
 
-  top-in : top < bottom → RowIn b top
-  top-in h = let e : top + 0 ≡ top = omega arith in subst (RowIn b) e (row-in 0 (omega arith))
-
   inside : top < bottom → Inside (b .width) (b .height) (b .window)
   inside h = inside-of (b .width) (b .height) (b .window) (row-fits 0 (omega arith) .inside)
 
   abbrev up : Bool
   up = bottomToTop (b .direction)
 
-  abbrev place : ℕ → ℕ → ℕ
-  place corner r = placeAt corner (b .width) (b .direction) a z r
+  abbrev place : ℕ → ℕ → ℕ → ℕ
+  place corner width r = placeAt corner width (b .direction) a z r
 
-  target-on : (k : ℕ) → k < bottom - top → away up (place (b .to) top) (b .width * k) ≡ place (b .to) (top + k)
-  target-on k h =
-      let some : top < bottom = omega arith in
-      let window = inside some .top-in in
-      moved-on up (b .width) (pointOf (b .to) .y) (leftEdge (rightToLeft (b .direction)) (pointOf (b .to) .x) a z - origin) top k (y-from (b .to))
-      (row-fits k h .row-small) (omega (arith, window, top-in some .low)) (omega (arith, window, row-in k h .low))
+  small : (k : ℕ) → k < bottom - top → top + k < 65536
+  small k h = row-fits k h .row-small
 
-  source-on : reads (b .paint) ≡ true → (k : ℕ) → k < bottom - top → away up (place (b .from) top) (b .width * k) ≡ place (b .from) (top + k)
-  source-on t k h =
-      moved-on up (b .width) (pointOf (b .from) .y) (leftEdge (rightToLeft (b .direction)) (pointOf (b .from) .x) a z - origin) top k (y-from (b .from))
-      (row-fits k h .row-small) (top-in (omega arith) .source t .0) (row-in k h .source t .0)
+  target-seen : (k : ℕ) → k < bottom - top → origin ≤ targetRow b (top + k)
+  target-seen k h = omega (arith, inside (omega arith) .top-in, row-in k h .low)
 
-  pub box-fits : b .width < 4294967296 → b .height < 4294967296 → bottom ≤ 65536 → z ≤ 65536 → length other ≡ own
-      → own ≡ b .width * b .height → BoxFits (b .paint) (b .width) (b .to) (b .from) (b .direction) across down (length other) own
-  box-fits wide high rows-small columns-small same area =
+  source-seen : reads (b .paint) ≡ true → (k : ℕ) → k < bottom - top → origin ≤ sourceRow b (top + k)
+  source-seen t k h = row-in k h .source t .0
+
+  target-on : (k : ℕ) → k < bottom - top → away up (place (b .to) (b .width) top) (b .width * k) ≡ place (b .to) (b .width) (top + k)
+  target-on = row-on (b .to) (b .width) (b .direction) a z top bottom small target-seen
+
+  source-on : reads (b .paint) ≡ true → (k : ℕ) → k < bottom - top
+      → away up (place (b .from) (sourceWidth b) top) (sourceWidth b * k) ≡ place (b .from) (sourceWidth b) (top + k)
+  source-on t = row-on (b .from) (sourceWidth b) (b .direction) a z top bottom small (source-seen t)
+
+  pub box-fits : b .width < 4294967296 → bottom ≤ 65536 → z ≤ 65536 → length other ≡ own
+      → BoxFits (b .paint) (b .width) (b .to) (b .from) (b .direction) across down (length other) own
+  box-fits wide rows-small columns-small same =
       record {
         across-small = columns-small;
         down-small = rows-small;
         same = same;
         target =
             λ some lines.
-            record {
-              within =
-                  λ k h.
-                  rw (target-on k h) (target-room b other (top + k) c m own (row-fits k h) a z begins stops some (row-in k h));
-              far = omega (arith, area, area-far (b .width) (b .height) wide high);
-            };
+            rows-fit (b .to) (b .width) (b .direction) a z top bottom small target-seen own (omega (arith, wide)) (omega (arith, some, columns-small)) lines
+            rows-small (λ k h. target-room b other (top + k) c m own (row-fits k h) a z begins stops some (row-in k h));
         source =
             λ t some lines.
-            record {
-              within =
-                  λ k h.
-                  rw (source-on t k h) (source-room b other (top + k) c m own (row-fits k h) a z begins stops some (row-in k h) t);
-              far = omega (arith, area, area-far (b .width) (b .height) wide high);
-            };
+            rows-fit (b .from) (sourceWidth b) (b .direction) a z top bottom small (source-seen t) (sourcePixels (b .paint) own)
+            (source-small (b .paint) (b .width) wide) (omega (arith, some, columns-small)) lines rows-small
+            (λ k h. source-room b other (top + k) c m own (row-fits k h) a z begins stops some (row-in k h) t);
       }
 
   abbrev boxRow : ℕ → List ℕ → List ℕ
-  boxRow = rowAt (b .paint) (rightToLeft (b .direction)) up (b .width) other (place (b .to) top) (place (b .from) top) (z - a)
+  boxRow =
+      rowAt (b .paint) (rightToLeft (b .direction)) up (b .width) (sourceWidth b) other (place (b .to) (b .width) top)
+      (place (b .from) (sourceWidth b) top) (z - a)
 
   one-row : (k : ℕ) → k < bottom - top → (t : List ℕ) → rowVisits (top + k) t ≡ boxRow k t
   one-row k h t =
+      let at = away up (place (b .to) (b .width) top) (b .width * k) in
+      let from = away up (place (b .from) (sourceWidth b) top) (sourceWidth b * k) in
       by-cases (leb z a)
       (λ u.
       let e = leb-true z a u in
       sym (none-in-columns b other (top + k) c m own (row-fits k h) a z begins stops t e)
-      ∙ sym
-      (row-none (b .paint) (rightToLeft (b .direction)) other (away up (place (b .to) top) (b .width * k)) (away up (place (b .from) top) (b .width * k)) (z - a) t
-      (omega arith)))
+      ∙ sym (row-none (b .paint) (rightToLeft (b .direction)) other at from (z - a) t (omega arith)))
       (λ u.
       let e = leb-false z a u in
-      sym
-      (whole-row b other (top + k) c m own (row-fits k h) a z begins stops e (row-in k h) (away up (place (b .to) top) (b .width * k))
-      (away up (place (b .from) top) (b .width * k)) (target-on k h) (λ s. source-on s k h) t))
+      sym (whole-row b other (top + k) c m own (row-fits k h) a z begins stops e (row-in k h) at from (target-on k h) (λ s. source-on s k h) t))
 
   row-idle : (k : ℕ) → k < rows → (t : List ℕ) → (k < top - row) ⊎ (bottom - row ≤ k) → rowVisits (row + k) t ≡ t
   row-idle k q t out =
@@ -229,13 +262,13 @@ module _ (b : Blit) (other : List ℕ) (row c m own : ℕ) (f : RowFits b row c 
   only-row : (r : ℕ) → row ≤ r → r < row + 1 → RowFits b r c m (length other) own
   only-row r p q = let e : row ≡ r = omega arith in subst (λ r. RowFits b r c m (length other) own) e f
 
-  pub row-box-fits : b .width < 4294967296 → b .height < 4294967296
+  pub row-box-fits : b .width < 4294967296
       → BoxFits (b .paint) (b .width) (b .to) (b .from) (b .direction) across down (length other) own
-  row-box-fits wide high =
-      box-fits b other row 1 c m own only-row across down columns lines wide high
+  row-box-fits wide =
+      box-fits b other row 1 c m own only-row across down columns lines wide
       (omega (arith, past-most (row + 1) (seenRows b .past) (down .past) (ap (λ s. s .past) lines) .0, f .row-small))
       (z-small b other row c m own f (across .from) (across .past) (ap (λ s. s .from) columns) (ap (λ s. s .past) columns))
-      (f .other-area ∙ sym (f .own-area)) (f .own-area)
+      (f .other-area ∙ sym (f .own-area))
 
   pub row-box-visits : (l k : List ℕ) → k ≡ boxOf (b .paint) (b .width) (b .to) (b .from) (b .direction) across down other l
       → k ≡ inTurn (λ i. visited b other (widthOf (b .size) * row + c + i)) m l
@@ -274,13 +307,13 @@ module _ (b : Blit) (other : List ℕ) (rows own : ℕ) (some : 0 < widthOf (b .
       by-cases (leb rows 0) (λ t. omega (arith, leb-true rows 0 t))
       (λ t. let h = leb-false rows 0 t in omega (arith, row-under (rows - 1) (omega arith)))
 
-  pub whole-box-fits : b .width < 4294967296 → b .height < 4294967296
+  pub whole-box-fits : b .width < 4294967296
       → BoxFits (b .paint) (b .width) (b .to) (b .from) (b .direction) across down (length other) own
-  whole-box-fits wide high =
-      box-fits b other 0 rows 0 w own each-row across down columns lines wide high
+  whole-box-fits wide =
+      box-fits b other 0 rows 0 w own each-row across down columns lines wide
       (omega (arith, past-most (0 + rows) (seenRows b .past) (down .past) (ap (λ s. s .past) lines) .0, rows-most))
       (omega (arith, past-most (0 + w) (seenColumns b .past) (across .past) (ap (λ s. s .past) columns) .0, small))
-      (f .other-area ∙ sym (f .own-area)) (f .own-area)
+      (f .other-area ∙ sym (f .own-area))
 
   pub whole-box-visits : (l k : List ℕ) → k ≡ boxOf (b .paint) (b .width) (b .to) (b .from) (b .direction) across down other l
       → k ≡ inTurn (visited b other) (w * rows) l

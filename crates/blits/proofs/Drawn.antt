@@ -12,12 +12,13 @@ use Rattle.geometry.specs.Coordinates.{origin, pointOf}
 use Rattle.geometry.specs.Blit.{widthOf, rightToLeft, away}
 use Rattle.rows.specs.Rows.{mixed, sweep}
 use Rattle.rows.proofs.Sweeps.{sweep-agree}
+use Rattle.stipples.specs.Stipples.{bitAt, stippled}
 use Rattle.lemmas.specs.Turns.{inTurn}
 use Rattle.geometry.specs.Clip.{placeIn}
-use Rattle.blits.specs.Blits.{painted, reads, targetAt, sourceAt, drawnAt, visited, seenColumns, targetRow, sourceRow, rowOf, leftEdge}
+use Rattle.blits.specs.Blits.{painted, reads, sourceWidth, targetAt, sourceAt, drawnAt, visited, seenColumns, targetRow, sourceRow, rowOf, leftEdge}
 use Rattle.blits.specs.declared.Blit.{Blit}
 use Rattle.blits.specs.declared.Paint.{Paint}
-use Rattle.blits.specs.declared.Paint.the-variants.{Solid, Copied, Moved}
+use Rattle.blits.specs.declared.Paint.the-variants.{Solid, Copied, Moved, Stippled, StippledWithin}
 use Rattle.lemmas.proofs.Turns.{turn-idle}
 use Rattle.blits.proofs.Sweeping.{turn-sweep}
 use Rattle.blits.proofs.Spans.{x-from, visit-drawn, visit-hidden}
@@ -27,6 +28,8 @@ same-source : (paint : Paint) (other own : List ℕ) (x y d : ℕ) → (reads pa
 same-source (Solid pen) other own x y d h = refl
 same-source (Copied mix) other own x y d h = ap (λ x. mixed mix (getD other x 0) d) (h refl)
 same-source (Moved mix) other own x y d h = ap (λ x. mixed mix (getD own x 0) d) (h refl)
+same-source (Stippled s) other own x y d h = ap (λ x. stippled s (bitAt other x) d) (h refl)
+same-source (StippledWithin s) other own x y d h = ap (λ x. stippled s (bitAt own x) d) (h refl)
 
 -- a row is the same from another place where nothing is read
 pub same-source-row : (paint : Paint) (back : Bool) (other : List ℕ) (at x y n : ℕ) (l : List ℕ) → (reads paint ≡ true → x ≡ y)
@@ -36,6 +39,8 @@ same-source-row (Solid pen) false other at x y n l h = refl
 same-source-row (Solid pen) true other at x y n l h = refl
 same-source-row (Copied mix) back other at x y n l h = ap (λ x. rowOf (Copied mix) back other at x n l) (h refl)
 same-source-row (Moved mix) back other at x y n l h = ap (λ x. rowOf (Moved mix) back other at x n l) (h refl)
+same-source-row (Stippled s) back other at x y n l h = ap (λ x. rowOf (Stippled s) back other at x n l) (h refl)
+same-source-row (StippledWithin s) back other at x y n l h = ap (λ x. rowOf (StippledWithin s) back other at x n l) (h refl)
 
 -- a sweep over the places of a row, in either direction
 sweep-row : (paint : Paint) (back : Bool) (other : List ℕ) (at from n : ℕ) (place source : ℕ → ℕ)
@@ -138,7 +143,7 @@ module _ (b : Blit) (other : List ℕ) (r c m : ℕ) (fits : c + m ≤ widthOf (
     place i = placeIn (b .width) (targetAt b (widthOf (b .size) * r + c + i))
 
     abbrev source : ℕ → ℕ
-    source i = placeIn (b .width) (sourceAt b (widthOf (b .size) * r + c + i))
+    source i = placeIn (sourceWidth b) (sourceAt b (widthOf (b .size) * r + c + i))
 
     row-swept : (l : List ℕ) → inTurn visit m l
         ≡ sweep (λ k. place (a - c + k)) (λ k m. painted (b .paint) other m (source (a - c + k)) (getD m (place (a - c + k)) 0)) (z - a) l
@@ -168,7 +173,7 @@ module _ (b : Blit) (other : List ℕ) (r c m : ℕ) (fits : c + m ≤ widthOf (
     targetBase = (targetRow b r - origin) * b .width
 
     abbrev sourceBase : ℕ
-    sourceBase = (sourceRow b r - origin) * b .width
+    sourceBase = (sourceRow b r - origin) * sourceWidth b
 
     place-is : (k : ℕ) → k < z - a →
         let at = targetBase + (leftEdge (rightToLeft (b .direction)) (pointOf (b .to) .x) a z - origin) in
@@ -188,7 +193,7 @@ module _ (b : Blit) (other : List ℕ) (r c m : ℕ) (fits : c + m ≤ widthOf (
         let j = column k h in
         let first = within a (omega arith) some .source t in
         let last = within (z - 1) (omega (arith, some)) (omega (arith, some)) .source t in
-        ap (λ i. placeIn (b .width) (sourceAt b i)) (j .0) ∙ ap (placeIn (b .width)) (source-is b r (a + k) (j .1) size-small)
+        ap (λ i. placeIn (sourceWidth b) (sourceAt b i)) (j .0) ∙ ap (placeIn (sourceWidth b)) (source-is b r (a + k) (j .1) size-small)
         ∙ column-place (rightToLeft (b .direction)) sourceBase (pointOf (b .from) .x) a z k (x-from (b .from)) (omega (arith, ends, fits, size-small))
         (omega (arith, h)) (first .0) (last .0)
 

@@ -5,6 +5,8 @@ pub mod Drawn
 pub mod Bounds
 pub mod Painted
 pub mod Rooms
+pub mod Words
+pub mod Blocks
 pub mod Steps
 pub mod Loops
 pub mod Boxes

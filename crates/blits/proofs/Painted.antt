@@ -1,7 +1,7 @@
 -- A row painted is a row of visits, whatever it is painted from.
 -- Assumes nothing.
 use mathlib.Core.Path.{_≡_, ap, sym, _∙_}
-use mathlib.Core.Bool.{Bool, true, false}
+use mathlib.Core.Bool.{Bool, true, false, cond}
 use mathlib.Core.List.{List}
 use Prim.Native.Nat.{ℕ, _+_, _≤_}
 use native.Mathlib.Omega.{arith}
@@ -9,10 +9,13 @@ use lib.ListN.{length}
 use Rattle.raster.specs.declared.Pen.{Pen}
 use Rattle.rows.specs.Rows.{mixed, filledRow, copiedRow, movedRow, movedBackRow}
 use Rattle.rows.specs.declared.Mix.{Mix}
-use Rattle.rows.proofs.Orders.{fill-turned, copy-turned}
+use Rattle.rows.proofs.Orders.{fill-turned, copy-turned, turned-from}
 use Rattle.rows.proofs.Fitting.{filled-row, copied-row, moved-row, moved-back-row}
+use Rattle.stipples.specs.Stipples.{bitAt, stippled}
+use Rattle.stipples.specs.declared.Stipple.{Stipple}
 use Rattle.blits.specs.Blits.{rowOf}
-use Rattle.blits.specs.declared.Paint.the-variants.{Solid, Copied, Moved}
+use Rattle.blits.specs.Bits.{expanded, expandedWithin, expandedBack}
+use Rattle.blits.specs.declared.Paint.the-variants.{Solid, Copied, Moved, Stippled, StippledWithin}
 
 pub solid-row : (back : Bool) (pen : Pen) (other l r : List ℕ) (at from n : ℕ) → at + n ≤ length l → r ≡ filledRow pen n l at
     → r ≡ rowOf (Solid pen) back other at from n l
@@ -38,3 +41,16 @@ pub moved-left : (back : Bool) (mix : Mix) (l r : List ℕ) (at from n : ℕ) �
 unfolding rowOf
 moved-left back mix l r at from n b h k e other =
     e ∙ sym (moved-back-row mix n l (at + n) (from + n) (omega arith) (omega arith) h k) ∙ ap (λ b. rowOf (Moved mix) b other at from n l) (sym b)
+
+pub stippled-from : (back : Bool) (s : Stipple) (other l r : List ℕ) (at from n : ℕ) → r ≡ expanded s n l at other from
+    → r ≡ rowOf (Stippled s) back other at from n l
+unfolding rowOf
+stippled-from false s other l r at from n e = e
+stippled-from true s other l r at from n e = e ∙ sym (turned-from (λ i. stippled s (bitAt other i)) n l at from)
+
+pub stippled-within : (back : Bool) (s : Stipple) (l r : List ℕ) (at from n : ℕ)
+    → r ≡ cond back (expandedBack s n l at from) (expandedWithin s n l at from) → (other : List ℕ)
+    → r ≡ rowOf (StippledWithin s) back other at from n l
+unfolding rowOf
+stippled-within false s l r at from n e other = e
+stippled-within true s l r at from n e other = e

@@ -1,9 +1,10 @@
 -- One row drawn by its parts: what it needs, and that it is the visits of that row.
 -- Assumes nothing.
-use mathlib.Core.Path.{_≡_, ap, _∙_}
+use mathlib.Core.Path.{_≡_, ap, sym, _∙_}
 use mathlib.Core.Bool.{Bool, true, false, _&&_}
 use mathlib.Core.List.{List}
 use Prim.Native.Nat.{ℕ, _+_, _-_, _*_, _≤_, _<_, min, max}
+use native.Mathlib.Nat.{mul-assoc}
 use native.Mathlib.Omega.{arith}
 use borrow.Author.Tests.{leb-true}
 use lib.Dec.{leb}
@@ -14,8 +15,10 @@ use Rattle.geometry.specs.Blit.{widthOf, rightToLeft, away}
 use Rattle.geometry.specs.declared.Window.{Window}
 use Rattle.geometry.proofs.Clips.{area}
 use Rattle.lemmas.specs.Turns.{inTurn}
-use Rattle.blits.specs.Blits.{reads, visited, windowInside, seenColumns, targetRow, sourceRow, rowOf, leftEdge, placeAt, RowFits}
+use Rattle.blits.specs.Blits.{reads, sourcePixels, sourceWidth, visited, windowInside, seenColumns, targetRow, sourceRow, rowOf, leftEdge, placeAt, RowFits}
 use Rattle.blits.specs.declared.Blit.{Blit}
+use Rattle.blits.specs.declared.Paint.{Paint}
+use Rattle.blits.specs.declared.Paint.the-variants.{Solid, Copied, Moved, Stippled, StippledWithin}
 use Rattle.blits.proofs.Spans.{x-from}
 use Rattle.blits.proofs.Rowwise.{ColumnIn, RowIn, column-of}
 use Rattle.blits.proofs.Drawn.{same-source-row, from-least, past-most, row-hidden, row-drawn}
@@ -43,6 +46,14 @@ room : (width height y e n : ℕ) → 0 < n → origin ≤ e → e + n ≤ origi
     → (y - origin) * width + (e - origin) + n ≤ width * height
 room width height y e n some low high row =
     omega (arith, area width height (e - origin + n - 1) (y - origin) (omega arith) row)
+
+-- a buffer as a source: as many rows, each of the source's width
+source-area : (paint : Paint) (width height own : ℕ) → own ≡ width * height → sourcePixels paint width * height ≡ sourcePixels paint own
+source-area (Solid pen) width height own e = sym e
+source-area (Copied mix) width height own e = sym e
+source-area (Moved mix) width height own e = sym e
+source-area (Stippled s) width height own e = omega (arith, e, mul-assoc 8 width height)
+source-area (StippledWithin s) width height own e = omega (arith, e, mul-assoc 8 width height)
 
 pub record Inside (width height : ℕ) (w : Window) : Type 0 where
   pub left-in : origin ≤ w .left
@@ -92,7 +103,7 @@ module _ (b : Blit) (other : List ℕ) (r c m own : ℕ) (f : RowFits b r c m (l
     targetPlace = placeAt (b .to) (b .width) (b .direction) a z r
 
     abbrev sourcePlace : ℕ
-    sourcePlace = placeAt (b .from) (b .width) (b .direction) a z r
+    sourcePlace = placeAt (b .from) (sourceWidth b) (b .direction) a z r
 
     inside : Inside (b .width) (b .height) (b .window)
     inside = inside-of (b .width) (b .height) (b .window) (f .inside)
@@ -122,17 +133,17 @@ module _ (b : Blit) (other : List ℕ) (r c m own : ℕ) (f : RowFits b r c m (l
               (omega (arith, row .low, row .high, inside .top-in, inside .bottom-in)),
         )
 
-    pub source-room : reads (b .paint) ≡ true → sourcePlace + (z - a) ≤ own
+    pub source-room : reads (b .paint) ≡ true → sourcePlace + (z - a) ≤ sourcePixels (b .paint) own
     source-room t =
         let x = pointOf (b .from) .x in
         let p = first .source t in
         let q = last .source t in
-        let to = edge-to back x a z (origin + b .width) (x-from (b .from)) z-small some (p .1) (q .1) in
+        let to = edge-to back x a z (origin + sourceWidth b) (x-from (b .from)) z-small some (p .1) (q .1) in
         let here = row .source t in
         omega (
           arith,
-          f .own-area,
-          room (b .width) (b .height) (sourceRow b r) (leftEdge back x a z) (z - a) (omega (arith, some)) (edge-from back x a z origin some (p .0) (q .0)) to
+          source-area (b .paint) (b .width) (b .height) own (f .own-area),
+          room (sourceWidth b) (b .height) (sourceRow b r) (leftEdge back x a z) (z - a) (omega (arith, some)) (edge-from back x a z origin some (p .0) (q .0)) to
               (omega (arith, here .0, here .1)),
         )
 

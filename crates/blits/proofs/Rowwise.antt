@@ -10,7 +10,7 @@ use Rattle.geometry.specs.Clip.{inBuffer}
 use Rattle.geometry.specs.Blit.{widthOf, bottomToTop, rightToLeft, away}
 use Rattle.geometry.specs.declared.Point.{Point}
 use Rattle.geometry.proofs.Windows.{Shown, buffer-of, buffer-by}
-use Rattle.blits.specs.Blits.{reads, targetAt, sourceAt, drawnAt, spanOf, inBoth, seenSpan, seenColumns, seenRows, targetRow, sourceRow}
+use Rattle.blits.specs.Blits.{reads, sourceWidth, targetAt, sourceAt, drawnAt, spanOf, inBoth, seenSpan, seenColumns, seenRows, targetRow, sourceRow}
 use Rattle.blits.specs.declared.Blit.{Blit}
 use Rattle.blits.specs.declared.Span.{Span}
 use Rattle.blits.proofs.Spans.{span-in, span-of, x-from, y-from, point-at, drawn-of, drawn-by}
@@ -64,7 +64,7 @@ module _ (reads back : Bool) (t lo hi s size j : ℕ) (t-from : 65536 ≤ t) (s-
 -- the columns and the rows of a blit
 abbrev pub ColumnIn : Blit → ℕ → Type 0
 ColumnIn b j =
-    Within (reads (b .paint)) (rightToLeft (b .direction)) (pointOf (b .to) .x) (b .window .left) (b .window .right) (pointOf (b .from) .x) (b .width) j
+    Within (reads (b .paint)) (rightToLeft (b .direction)) (pointOf (b .to) .x) (b .window .left) (b .window .right) (pointOf (b .from) .x) (sourceWidth b) j
 
 abbrev pub RowIn : Blit → ℕ → Type 0
 RowIn b r =
@@ -107,10 +107,10 @@ module _ (b : Blit) (r j : ℕ) (fits : j < widthOf (b .size)) (size-small : b .
       (subst (Shown (b .window)) (sym target-is)
       (record { from-left = w .low; to-right = w .high; from-top = s .low; to-bottom = s .high }))
       (λ t.
-      subst (λ p. inBuffer (b .width) (b .height) p ≡ true) (sym source-is)
+      subst (λ p. inBuffer (sourceWidth b) (b .height) p ≡ true) (sym source-is)
       (let x = w .source t in
       let y = s .source t in
-      buffer-by (b .width) (b .height) (record { x = away (rightToLeft (b .direction)) (pointOf (b .from) .x) j; y = sourceRow b r }) (x .0) (y .0)
+      buffer-by (sourceWidth b) (b .height) (record { x = away (rightToLeft (b .direction)) (pointOf (b .from) .x) j; y = sourceRow b r }) (x .0) (y .0)
       (omega (arith, x .0, x .1)) (omega (arith, y .0, y .1))))
 
   pub drawn-seen : drawnAt b k ≡ true → RowIn b r × ColumnIn b j
@@ -118,8 +118,8 @@ module _ (b : Blit) (r j : ℕ) (fits : j < widthOf (b .size)) (size-small : b .
       let d = drawn-of b k h in
       let s = subst (Shown (b .window)) target-is (d .0) in
       let q : Point = record { x = away (rightToLeft (b .direction)) (pointOf (b .from) .x) j; y = sourceRow b r } in
-      let src : reads (b .paint) ≡ true → (origin ≤ q .x) × (origin ≤ q .y) × (q .x - origin < b .width) × (q .y - origin < b .height) =
-      λ t. buffer-of (b .width) (b .height) q (subst (λ p. inBuffer (b .width) (b .height) p ≡ true) source-is (d .1 t)) in (
+      let src : reads (b .paint) ≡ true → (origin ≤ q .x) × (origin ≤ q .y) × (q .x - origin < sourceWidth b) × (q .y - origin < b .height) =
+      λ t. buffer-of (sourceWidth b) (b .height) q (subst (λ p. inBuffer (sourceWidth b) (b .height) p ≡ true) source-is (d .1 t)) in (
         record {
           low = s .from-top;
           high = s .to-bottom;

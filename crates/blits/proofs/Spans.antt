@@ -13,7 +13,7 @@ use Rattle.geometry.specs.Clip.{inBuffer, inWindow, placeIn}
 use Rattle.geometry.specs.Blit.{widthOf, bottomToTop, rightToLeft, away, blitPoint}
 use Rattle.geometry.specs.declared.Point.{Point}
 use Rattle.geometry.proofs.Windows.{Shown, shown-of, shown-by}
-use Rattle.blits.specs.Blits.{painted, reads, targetAt, sourceAt, drawnAt, visited, spanOf}
+use Rattle.blits.specs.Blits.{painted, reads, sourceWidth, targetAt, sourceAt, drawnAt, visited, spanOf}
 use Rattle.blits.specs.declared.Blit.{Blit}
 
 -- what is let through
@@ -63,29 +63,29 @@ point-at corner size direction r j h =
 
 -- what a drawn visit has, and what makes it drawn
 pub drawn-of : (b : Blit) (k : ℕ) → drawnAt b k ≡ true
-    → Shown (b .window) (targetAt b k) × (reads (b .paint) ≡ true → inBuffer (b .width) (b .height) (sourceAt b k) ≡ true)
+    → Shown (b .window) (targetAt b k) × (reads (b .paint) ≡ true → inBuffer (sourceWidth b) (b .height) (sourceAt b k) ≡ true)
 drawn-of b k h =
     let seen = inWindow (b .window) (targetAt b k) in
-    let read = not (reads (b .paint)) || inBuffer (b .width) (b .height) (sourceAt b k) in (
+    let read = not (reads (b .paint)) || inBuffer (sourceWidth b) (b .height) (sourceAt b k) in (
       shown-of (b .window) (targetAt b k) (and-left seen read h),
-      λ t. or-not (reads (b .paint)) (inBuffer (b .width) (b .height) (sourceAt b k)) (and-right seen read h) t,
+      λ t. or-not (reads (b .paint)) (inBuffer (sourceWidth b) (b .height) (sourceAt b k)) (and-right seen read h) t,
     )
 
 pub drawn-by : (b : Blit) (k : ℕ) → Shown (b .window) (targetAt b k)
-    → (reads (b .paint) ≡ true → inBuffer (b .width) (b .height) (sourceAt b k) ≡ true) → drawnAt b k ≡ true
+    → (reads (b .paint) ≡ true → inBuffer (sourceWidth b) (b .height) (sourceAt b k) ≡ true) → drawnAt b k ≡ true
 drawn-by b k s r =
-    both (shown-by (b .window) (targetAt b k) s) (not-or (reads (b .paint)) (inBuffer (b .width) (b .height) (sourceAt b k)) r)
+    both (shown-by (b .window) (targetAt b k) s) (not-or (reads (b .paint)) (inBuffer (sourceWidth b) (b .height) (sourceAt b k)) r)
 
 pub visit-drawn : (b : Blit) (other : List ℕ) (k : ℕ) (l : List ℕ) → drawnAt b k ≡ true →
     let at = placeIn (b .width) (targetAt b k) in
-    visited b other k l ≡ set l at (painted (b .paint) other l (placeIn (b .width) (sourceAt b k)) (getD l at 0))
+    visited b other k l ≡ set l at (painted (b .paint) other l (placeIn (sourceWidth b) (sourceAt b k)) (getD l at 0))
 unfolding visited
 visit-drawn b other k l h =
     let at = placeIn (b .width) (targetAt b k) in
-    ap (λ t. cond t (set l at (painted (b .paint) other l (placeIn (b .width) (sourceAt b k)) (getD l at 0))) l) h
+    ap (λ t. cond t (set l at (painted (b .paint) other l (placeIn (sourceWidth b) (sourceAt b k)) (getD l at 0))) l) h
 
 pub visit-hidden : (b : Blit) (other : List ℕ) (k : ℕ) (l : List ℕ) → (drawnAt b k ≡ true → ⊥) → visited b other k l ≡ l
 unfolding visited
 visit-hidden b other k l h =
     let at = placeIn (b .width) (targetAt b k) in
-    ap (λ t. cond t (set l at (painted (b .paint) other l (placeIn (b .width) (sourceAt b k)) (getD l at 0))) l) (not-then (drawnAt b k) h)
+    ap (λ t. cond t (set l at (painted (b .paint) other l (placeIn (sourceWidth b) (sourceAt b k)) (getD l at 0))) l) (not-then (drawnAt b k) h)

@@ -13,23 +13,39 @@ use Rattle.geometry.specs.Blit.{widthOf, blitCount, bottomToTop, rightToLeft, a
 use Rattle.geometry.specs.declared.Point.{Point}
 use Rattle.geometry.specs.declared.Window.{Window}
 use Rattle.rows.specs.Rows.{mixed, sweep}
+use Rattle.stipples.specs.Stipples.{bitAt, stippled}
 use Rattle.blits.specs.declared.Blit.{Blit}
 use Rattle.blits.specs.declared.Paint.{Paint}
-use Rattle.blits.specs.declared.Paint.the-variants.{Solid, Copied, Moved}
+use Rattle.blits.specs.declared.Paint.the-variants.{Solid, Copied, Moved, Stippled, StippledWithin}
 use Rattle.blits.specs.declared.Span.{Span}
 use Rattle.blits.specs.declared.Seen.{Seen}
 
--- The new byte of a pixel whose source pixel is at `from` of the other buffer, or of the same as it stands.
+-- The new byte of a pixel whose source pixel, a byte or a bit, is at `from` of the other buffer, or of the same as it stands.
 abbrev pub painted : Paint → List ℕ → List ℕ → ℕ → ℕ → ℕ
 painted (Solid pen) other own from old = drawn pen old
 painted (Copied mix) other own from old = mixed mix (getD other from 0) old
 painted (Moved mix) other own from old = mixed mix (getD own from 0) old
+painted (Stippled s) other own from old = stippled s (bitAt other from) old
+painted (StippledWithin s) other own from old = stippled s (bitAt own from) old
 
 -- Whether pixels of a buffer are read.
 abbrev pub reads : Paint → Bool
 reads (Solid pen) = false
 reads (Copied mix) = true
 reads (Moved mix) = true
+reads (Stippled s) = true
+reads (StippledWithin s) = true
+
+-- The source pixels in n bytes of a buffer: eight in each byte of bits.
+abbrev pub sourcePixels : Paint → ℕ → ℕ
+sourcePixels (Solid pen) n = n
+sourcePixels (Copied mix) n = n
+sourcePixels (Moved mix) n = n
+sourcePixels (Stippled s) n = 8 * n
+sourcePixels (StippledWithin s) n = 8 * n
+
+abbrev pub sourceWidth : Blit → ℕ
+sourceWidth b = sourcePixels (b .paint) (b .width)
 
 -- Where visit k lies, and its source.
 abbrev pub targetAt : Blit → ℕ → Point
@@ -40,12 +56,12 @@ sourceAt b k = blitPoint (pointOf (b .from)) (b .size) (b .direction) k
 
 -- Visit k is drawn where the window lets it through and its source pixel, where one is read, is in its buffer.
 abbrev pub drawnAt : Blit → ℕ → Bool
-drawnAt b k = inWindow (b .window) (targetAt b k) && (not (reads (b .paint)) || inBuffer (b .width) (b .height) (sourceAt b k))
+drawnAt b k = inWindow (b .window) (targetAt b k) && (not (reads (b .paint)) || inBuffer (sourceWidth b) (b .height) (sourceAt b k))
 
 unfoldable pub visited : Blit → List ℕ → ℕ → List ℕ → List ℕ
 visited b other k l =
     let at = placeIn (b .width) (targetAt b k) in
-    let from = placeIn (b .width) (sourceAt b k) in
+    let from = placeIn (sourceWidth b) (sourceAt b k) in
     cond (drawnAt b k) (set l at (painted (b .paint) other l from (getD l at 0))) l
 
 -- Whether both buffers have the blit's size, with the window inside.
@@ -81,7 +97,7 @@ seenSpan reads back t lo hi s size =
 -- The columns of a blit that can be drawn, and the rows.
 unfoldable pub seenColumns : Blit → Span
 seenColumns b =
-    seenSpan (reads (b .paint)) (rightToLeft (b .direction)) (pointOf (b .to) .x) (b .window .left) (b .window .right) (pointOf (b .from) .x) (b .width)
+    seenSpan (reads (b .paint)) (rightToLeft (b .direction)) (pointOf (b .to) .x) (b .window .left) (b .window .right) (pointOf (b .from) .x) (sourceWidth b)
 
 unfoldable pub seenRows : Blit → Span
 seenRows b =
@@ -107,9 +123,9 @@ rowOf paint false other at from n l =
 rowOf paint true other at from n l =
     sweep (λ k. at + n - (k + 1)) (λ k m. painted paint other m (from + n - (k + 1)) (getD m (at + n - (k + 1)) 0)) n l
 
--- Row k of those that are `width` apart, down or up.
-abbrev pub rowAt : Paint → Bool → Bool → ℕ → List ℕ → ℕ → ℕ → ℕ → ℕ → List ℕ → List ℕ
-rowAt paint back up width other at from n k l = rowOf paint back other (away up at (width * k)) (away up from (width * k)) n l
+-- Row k of those that are `width` apart, down or up, and `stride` apart in the source.
+abbrev pub rowAt : Paint → Bool → Bool → ℕ → ℕ → List ℕ → ℕ → ℕ → ℕ → ℕ → List ℕ → List ℕ
+rowAt paint back up width stride other at from n k l = rowOf paint back other (away up at (width * k)) (away up from (stride * k)) n l
 
 -- The left edge of the columns from a to before z, and its place in row r of a blit that starts at a corner.
 abbrev pub leftEdge : Bool → ℕ → ℕ → ℕ → ℕ
@@ -123,8 +139,9 @@ placeAt corner width direction a z r =
 unfoldable pub boxOf : Paint → ℕ → ℕ → ℕ → ℕ → Span → Span → List ℕ → List ℕ → List ℕ
 boxOf paint width to from direction across down other l =
     let target = placeAt to width direction (across .from) (across .past) (down .from) in
-    let source = placeAt from width direction (across .from) (across .past) (down .from) in
-    inTurn (rowAt paint (rightToLeft direction) (bottomToTop direction) width other target source (across .past - across .from)) (down .past - down .from) l
+    let stride = sourcePixels paint width in
+    let source = placeAt from stride direction (across .from) (across .past) (down .from) in
+    inTurn (rowAt paint (rightToLeft direction) (bottomToTop direction) width stride other target source (across .past - across .from)) (down .past - down .from) l
 
 -- What n visits from visit `first` on need.
 pub record Fitting (b : Blit) (first n other own : ℕ) : Type 0 where
@@ -142,10 +159,12 @@ pub record RowFits (b : Blit) (r c m other own : ℕ) : Type 0 where
   pub other-area : other ≡ b .width * b .height
   pub inside : windowInside (b .width) (b .height) (b .window) ≡ true
 
--- What rows of n pixels that are `width` apart need of a buffer of `own` pixels.
+-- What rows of n pixels that are `width` apart need of a buffer of `own` pixels: none goes past it or above it, and no
+-- place is too far.
 pub record RowsFit (up : Bool) (width at n rows own : ℕ) : Type 0 where
   pub within : (k : ℕ) → k < rows → away up at (width * k) + n ≤ own
-  pub far : own + width < 18446744073709551616
+  pub above : up ≡ true → (k : ℕ) → k < rows → width * k ≤ at
+  pub far : at + width * rows < 18446744073709551616
 
 pub record BoxFits (paint : Paint) (width to from direction : ℕ) (across down : Span) (other own : ℕ) : Type 0 where
   pub across-small : across .past ≤ 65536
@@ -155,8 +174,8 @@ pub record BoxFits (paint : Paint) (width to from direction : ℕ) (across down 
       → RowsFit (bottomToTop direction) width (placeAt to width direction (across .from) (across .past) (down .from)) (across .past - across .from)
       (down .past - down .from) own
   pub source : reads paint ≡ true → across .from < across .past → down .from < down .past
-      → RowsFit (bottomToTop direction) width (placeAt from width direction (across .from) (across .past) (down .from)) (across .past - across .from)
-      (down .past - down .from) own
+      → RowsFit (bottomToTop direction) (sourcePixels paint width) (placeAt from (sourcePixels paint width) direction (across .from) (across .past) (down .from))
+      (across .past - across .from) (down .past - down .from) (sourcePixels paint own)
 
 -- r whole rows at the start of n visits from visit `first` on: none but from the first visit.
 pub record WholeRows (size first n r : ℕ) : Type 0 where

@@ -1,1 +1,2 @@
 pub mod Blits
+pub mod Bits

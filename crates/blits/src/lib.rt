@@ -1,4 +1,6 @@
-// Many pixels of a blit at once, row by row (document 01, Pixels).
+// Many pixels of a blit at once, row by row (document 01, Pixels); rows from bits in bits.rt.
+mod bits;
+
 ghost use mathlib.Core.Path.{_≡_};
 ghost use mathlib.Core.Bool.{Bool, true};
 ghost use Prim.Native.Nat.{ℕ, _+_, _-_, _*_, _≤_, _<_, min, max};
@@ -7,9 +9,12 @@ ghost use lib.ListN.{length};
 ghost use Rattle.geometry.specs.Coordinates.{origin};
 ghost use Rattle.geometry.specs.Blit.{widthOf, blitCount, away};
 ghost use Rattle.rows.specs.Rows.{filledRow};
-ghost use Rattle.blits.specs.declared.Paint.the-variants.{Solid, Copied, Moved};
+ghost use Rattle.blits.specs.declared.Paint.the-variants.{Solid, Copied, Moved, Stippled, StippledWithin};
 ghost use Rattle.lemmas.specs.Turns.{inTurn};
-ghost use Rattle.blits.specs.Blits.{reads, visited, windowInside, blitFits, blitted, spanOf, seenSpan, seenOf, partOf, rowOf, rowAt, leftEdge, placeAt, boxOf, Fitting, RowFits, RowsFit, BoxFits, WholeRows};
+ghost use Rattle.blits.specs.Blits.{reads, sourcePixels, visited, windowInside, blitFits, blitted, spanOf, seenSpan, seenOf, partOf, rowOf, rowAt, leftEdge, placeAt, boxOf, Fitting, RowFits, RowsFit, BoxFits, WholeRows};
+use crate::bits::expand_row;
+use crate::bits::expand_within;
+use crate::bits::is_apart;
 use geometry::ORIGIN;
 use geometry::Window;
 use geometry::blit_count;
@@ -21,12 +26,15 @@ use rows::fill_narrow;
 use rows::fill_row;
 use rows::move_row;
 use rows::move_row_back;
+use stipples::Stipple;
 
-// Where the bytes of a blit come from: a pen, the other buffer, or the buffer that is drawn on.
+// What a blit is painted from: a pen, bytes or bits of the other buffer, or those of the buffer that is drawn on.
 pub enum Paint {
     Solid(Pen),
     Copied(Mix),
     Moved(Mix),
+    Stippled(Stipple),
+    StippledWithin(Stipple),
 }
 
 // A blit from corner to corner, by register words, on buffers of width x height pixels.
@@ -106,16 +114,16 @@ fn left_edge(back: bool, x: usize, a: usize, z: usize) -> usize
 }
 
 // The place of a pixel in a buffer of rows of `width` pixels.
-fn place_in(width: u32, x: usize, y: usize) -> usize
-    requires { ⌜ (x < 262144) × (y < 262144) ⌝ }
+fn place_in(width: usize, x: usize, y: usize) -> usize
+    requires { ⌜ (width < 34359738368) × (x < 262144) × (y < 262144) ⌝ }
     ensures { λ r. ⌜ r ≡ (y - origin) * width + (x - origin) ⌝ }
 {
-    less(y, ORIGIN) * (width as usize) + less(x, ORIGIN)
+    less(y, ORIGIN) * width + less(x, ORIGIN)
 }
 
 // Where columns a to before z of a row begin, in a blit that starts at a corner.
-fn place_at(corner: u32, width: u32, direction: u32, a: usize, z: usize, row: usize) -> usize
-    requires { ⌜ (a < z) × (z ≤ 65536) × (row < 65536) ⌝ }
+fn place_at(corner: u32, width: usize, direction: u32, a: usize, z: usize, row: usize) -> usize
+    requires { ⌜ (width < 34359738368) × (a < z) × (z ≤ 65536) × (row < 65536) ⌝ }
     ensures { λ r. ⌜ r ≡ placeAt corner width direction a z row ⌝ }
 {
     let c = point_of(corner);
@@ -132,16 +140,31 @@ fn reads_pixels(paint: Paint) -> bool
         Paint::Solid(_) => false,
         Paint::Copied(_) => true,
         Paint::Moved(_) => true,
+        Paint::Stippled(_) => true,
+        Paint::StippledWithin(_) => true,
+    }
+}
+
+// The source pixels in a row of `width` bytes: eight in each byte of bits.
+fn source_width(paint: Paint, width: u32) -> usize
+    ensures { λ r. ⌜ r ≡ sourcePixels paint width ⌝ }
+{
+    match paint {
+        Paint::Solid(_) => width as usize,
+        Paint::Copied(_) => width as usize,
+        Paint::Moved(_) => width as usize,
+        Paint::Stippled(_) => 8 * (width as usize),
+        Paint::StippledWithin(_) => 8 * (width as usize),
     }
 }
 
 // The j that can be drawn: j from t on or back in the window, and where pixels are read, j from s in a buffer of `size`.
-fn seen_span(reads: bool, back: bool, t: usize, lo: usize, hi: usize, s: usize, size: u32) -> Span
-    requires { ⌜ (t < 131072) × (s < 131072) ⌝ }
+fn seen_span(reads: bool, back: bool, t: usize, lo: usize, hi: usize, s: usize, size: usize) -> Span
+    requires { ⌜ (t < 131072) × (s < 131072) × (size < 34359738368) ⌝ }
     ensures { λ r. ⌜ r ≡ seenSpan reads back t lo hi s size ⌝ }
 {
     let target = visible(back, t, lo, hi);
-    let source = visible(back, s, ORIGIN, ORIGIN + size as usize);
+    let source = visible(back, s, ORIGIN, ORIGIN + size);
     let from = larger(target.from, source.from);
     let past = smaller(target.past, source.past);
     if reads {
@@ -161,8 +184,10 @@ fn seen_of(b: Blit) -> Seen
     let up = b.direction % 2 == 1;
     let target = point_of(b.to);
     let source = point_of(b.from);
-    let columns = seen_span(reads, back, target.x, w.left, w.right, source.x, b.width);
-    let rows = seen_span(reads, up, target.y, w.top, w.bottom, source.y, b.height);
+    let across = source_width(paint, b.width);
+    let down = b.height as usize;
+    let columns = seen_span(reads, back, target.x, w.left, w.right, source.x, across);
+    let rows = seen_span(reads, up, target.y, w.top, w.bottom, source.y, down);
     Seen { columns, rows }
 }
 
@@ -203,7 +228,7 @@ fn fill_one(buffer: &mut [u8], at: usize, n: usize, pen: Pen)
 // n pixels of each of so many rows, down or up from a row that begins at `at`.
 fn fill_rows(up: bool, width: usize, buffer: &mut [u8], at: usize, n: usize, rows: usize, pen: Pen)
     requires { ⌜ RowsFit up width at n rows (length (now buffer)) ⌝ }
-    ensures { λ _. ⌜ ((back : Bool) (other : List ℕ) (from : ℕ) → now (buffer .exit) ≡ inTurn (rowAt (Solid pen) back up width other at from n) rows (now (buffer .entry))) ⌝ }
+    ensures { λ _. ⌜ ((back : Bool) (stride : ℕ) (other : List ℕ) (from : ℕ) → now (buffer .exit) ≡ inTurn (rowAt (Solid pen) back up width stride other at from n) rows (now (buffer .entry))) ⌝ }
 {
     let mut to = at;
     let mut k: usize = 0;
@@ -217,6 +242,7 @@ fn fill_rows(up: bool, width: usize, buffer: &mut [u8], at: usize, n: usize, row
 fn copy_rows(
     up: bool,
     width: usize,
+    stride: usize,
     buffer: &mut [u8],
     at: usize,
     other: &[u8],
@@ -225,8 +251,8 @@ fn copy_rows(
     rows: usize,
     mix: Mix,
 )
-    requires { ⌜ RowsFit up width at n rows (length (now buffer)) × RowsFit up width from n rows (length (now other)) ⌝ }
-    ensures { λ _. ⌜ ((back : Bool) → now (buffer .exit) ≡ inTurn (rowAt (Copied mix) back up width (now (other .entry)) at from n) rows (now (buffer .entry))) ⌝ }
+    requires { ⌜ RowsFit up width at n rows (length (now buffer)) × RowsFit up stride from n rows (length (now other)) ⌝ }
+    ensures { λ _. ⌜ ((back : Bool) → now (buffer .exit) ≡ inTurn (rowAt (Copied mix) back up width stride (now (other .entry)) at from n) rows (now (buffer .entry))) ⌝ }
 {
     let mut to = at;
     let mut source = from;
@@ -234,7 +260,7 @@ fn copy_rows(
     while k < rows {
         copy_row(buffer, to, other, source, n, mix);
         to = along(up, to, width);
-        source = along(up, source, width);
+        source = along(up, source, stride);
         k += 1;
     }
 }
@@ -243,6 +269,7 @@ fn move_rows(
     back: bool,
     up: bool,
     width: usize,
+    stride: usize,
     buffer: &mut [u8],
     at: usize,
     from: usize,
@@ -250,8 +277,8 @@ fn move_rows(
     rows: usize,
     mix: Mix,
 )
-    requires { ⌜ RowsFit up width at n rows (length (now buffer)) × RowsFit up width from n rows (length (now buffer)) ⌝ }
-    ensures { λ _. ⌜ ((other : List ℕ) → now (buffer .exit) ≡ inTurn (rowAt (Moved mix) back up width other at from n) rows (now (buffer .entry))) ⌝ }
+    requires { ⌜ RowsFit up width at n rows (length (now buffer)) × RowsFit up stride from n rows (length (now buffer)) ⌝ }
+    ensures { λ _. ⌜ ((other : List ℕ) → now (buffer .exit) ≡ inTurn (rowAt (Moved mix) back up width stride other at from n) rows (now (buffer .entry))) ⌝ }
 {
     let mut to = at;
     let mut source = from;
@@ -259,7 +286,63 @@ fn move_rows(
     while k < rows {
         move_pixels(back, buffer, to, source, n, mix);
         to = along(up, to, width);
-        source = along(up, source, width);
+        source = along(up, source, stride);
+        k += 1;
+    }
+}
+
+// Places in the source are bits; its rows are whole bytes, so all of them begin at the same bit of a byte.
+fn stipple_rows(
+    up: bool,
+    width: usize,
+    buffer: &mut [u8],
+    at: usize,
+    other: &[u8],
+    from: usize,
+    n: usize,
+    rows: usize,
+    s: Stipple,
+)
+    requires { ⌜ RowsFit up width at n rows (length (now buffer)) × RowsFit up (8 * width) from n rows (8 * length (now other)) ⌝ }
+    ensures { λ _. ⌜ ((back : Bool) → now (buffer .exit) ≡ inTurn (rowAt (Stippled s) back up width (8 * width) (now (other .entry)) at from n) rows (now (buffer .entry))) ⌝ }
+{
+    let inks = s.inks();
+    let first = from % 8;
+    let mut to = at;
+    let mut byte = from / 8;
+    let mut k: usize = 0;
+    while k < rows {
+        expand_row(buffer, to, other, byte, first, n, s, inks);
+        to = along(up, to, width);
+        byte = along(up, byte, width);
+        k += 1;
+    }
+}
+
+fn stipple_within(
+    back: bool,
+    up: bool,
+    width: usize,
+    buffer: &mut [u8],
+    at: usize,
+    from: usize,
+    n: usize,
+    rows: usize,
+    s: Stipple,
+)
+    requires { ⌜ RowsFit up width at n rows (length (now buffer)) × RowsFit up (8 * width) from n rows (8 * length (now buffer)) ⌝ }
+    ensures { λ _. ⌜ ((other : List ℕ) → now (buffer .exit) ≡ inTurn (rowAt (StippledWithin s) back up width (8 * width) other at from n) rows (now (buffer .entry))) ⌝ }
+{
+    let inks = s.inks();
+    let first = from % 8;
+    let apart = is_apart(at, from / 8, n);
+    let mut to = at;
+    let mut byte = from / 8;
+    let mut k: usize = 0;
+    while k < rows {
+        expand_within(back, apart, buffer, to, byte, first, n, s, inks);
+        to = along(up, to, width);
+        byte = along(up, byte, width);
         k += 1;
     }
 }
@@ -270,6 +353,7 @@ fn paint_rows(
     back: bool,
     up: bool,
     width: usize,
+    stride: usize,
     buffer: &mut [u8],
     at: usize,
     other: &[u8],
@@ -277,18 +361,24 @@ fn paint_rows(
     n: usize,
     rows: usize,
 )
-    requires { ⌜ RowsFit up width at n rows (length (now buffer)) × (length (now other) ≡ length (now buffer)) × (reads paint ≡ true → RowsFit up width from n rows (length (now buffer))) ⌝ }
-    ensures { λ _. ⌜ now (buffer .exit) ≡ inTurn (rowAt paint back up width (now (other .entry)) at from n) rows (now (buffer .entry)) ⌝ }
+    requires { ⌜ RowsFit up width at n rows (length (now buffer)) × (length (now other) ≡ length (now buffer)) × (reads paint ≡ true → RowsFit up stride from n rows (sourcePixels paint (length (now buffer)))) × (stride ≡ sourcePixels paint width) ⌝ }
+    ensures { λ _. ⌜ now (buffer .exit) ≡ inTurn (rowAt paint back up width stride (now (other .entry)) at from n) rows (now (buffer .entry)) ⌝ }
 {
     match paint {
         Paint::Solid(pen) => {
             fill_rows(up, width, buffer, at, n, rows, pen);
         }
         Paint::Copied(mix) => {
-            copy_rows(up, width, buffer, at, other, from, n, rows, mix);
+            copy_rows(up, width, stride, buffer, at, other, from, n, rows, mix);
         }
         Paint::Moved(mix) => {
-            move_rows(back, up, width, buffer, at, from, n, rows, mix);
+            move_rows(back, up, width, stride, buffer, at, from, n, rows, mix);
+        }
+        Paint::Stippled(s) => {
+            stipple_rows(up, width, buffer, at, other, from, n, rows, s);
+        }
+        Paint::StippledWithin(s) => {
+            stipple_within(back, up, width, buffer, at, from, n, rows, s);
         }
     }
 }
@@ -318,13 +408,15 @@ fn paint_box(
     if bottom <= top {
         return;
     }
-    let target = place_at(to, width, direction, a, z, top);
-    let source = place_at(from, width, direction, a, z, top);
+    let stride = source_width(paint, width);
+    let target = place_at(to, width as usize, direction, a, z, top);
+    let source = place_at(from, stride, direction, a, z, top);
     paint_rows(
         paint,
         direction / 2 % 2 == 1,
         direction % 2 == 1,
         width as usize,
+        stride,
         buffer,
         target,
         other,

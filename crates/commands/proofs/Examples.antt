@@ -1,4 +1,4 @@
--- P9 and P10 hold, and so do the examples of R-1.
+-- P9 and P10 hold, and so do the examples of R-1 and R-2.
 -- Assumes nothing.
 use mathlib.Core.Path.{refl}
 use Rattle.raster.specs.Raster.{newBit, newByte}
@@ -9,9 +9,9 @@ use Rattle.geometry.specs.Blit.{blitVisit}
 use Rattle.entries.specs.Fields.{lengthOf}
 use Rattle.registers.specs.Patterns.{patternBit, nextOf}
 use Rattle.commands.specs.Visits.{countOf, visitAt}
-use Rattle.commands.specs.Sources.{copiedOf, dashOf, sourceOf}
+use Rattle.commands.specs.Sources.{copiedOf, stippledOf, dashOf, sourceOf}
 use Rattle.commands.specs.Steps.{patternAfter, advancedOf, visitOf, visitsOf}
-use Rattle.commands.specs.Examples.{P9, P10, R1}
+use Rattle.commands.specs.Examples.{P9, P10, R1, R2}
 
 pub p9 : P9
 unfolding newBit newByte pointOf placeOf blitVisit countOf visitAt copiedOf sourceOf patternAfter advancedOf visitOf visitsOf
@@ -24,3 +24,7 @@ p10 = refl
 pub r1 : R1
 unfolding newBit newByte pointOf placeOf nearestOf lineVisit lengthOf patternBit nextOf countOf visitAt dashOf sourceOf patternAfter advancedOf visitOf visitsOf
 r1 = ((refl, refl), (refl, refl, refl), (refl, refl))
+
+pub r2 : R2
+unfolding newBit newByte pointOf placeOf blitVisit countOf visitAt stippledOf sourceOf patternAfter advancedOf visitOf visitsOf
+r2 = (refl, refl, refl, (refl, refl, refl), refl, refl)

@@ -1,4 +1,5 @@
 pub mod Tests
+pub mod Bits
 pub mod Marks
 pub mod Bounds
 pub mod Triggers

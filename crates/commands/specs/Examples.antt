@@ -1,5 +1,5 @@
 -- P9 and P10 (01, Boards to check): a copy of four pixels within the display, on a board of one row of six. And lines in
--- dashes that a clip hides in part (02, R-1), on one row of eight.
+-- dashes that a clip hides in part (02, R-1), on one row of eight. And blits from bits (02, R-2), on one row of four.
 use mathlib.Core.Path.{_≡_}
 use mathlib.Core.Bool.{true, false}
 use mathlib.Core.List.{List, [], _∷_}
@@ -7,17 +7,17 @@ use Prim.Native.Nat.{ℕ}
 use Rattle.commands.specs.Steps.{Scene, scene, visitsOf}
 use Rattle.commands.specs.declared.Engine.{Engine}
 
--- BITBLT, raster code 3, 4 x 1 pixels, from the corner XY0 to the corner XY1
-abbrev pub copying : ℕ → ℕ → ℕ → Engine
-copying xy0 xy1 direction =
+-- BITBLT of 4 x 1 pixels, from the corner XY0 to the corner XY1
+abbrev pub blitting : ℕ → ℕ → ℕ → ℕ → Engine
+blitting cmd xy0 xy1 direction =
     record {
       «under_way» = true;
       visited = 0;
       registers =
           record {
-            cmd = 0x1300_0000;
-            fore = 0;
-            back = 0;
+            cmd = cmd;
+            fore = 0x11;
+            back = 0x22;
             mask = 255;
             key = 0;
             lpat = 0;
@@ -40,10 +40,10 @@ abbrev pub copied : Engine → List ℕ
 copied e = visitsOf 4 6 1 (scene e row (0 ∷ 0 ∷ 0 ∷ 0 ∷ 0 ∷ 0 ∷ [])) .display
 
 abbrev pub P9 : Type 0
-P9 = copied (copying 0x0000_0000 0x0001_0000 0) ≡ (1 ∷ 1 ∷ 1 ∷ 1 ∷ 1 ∷ 0 ∷ [])
+P9 = copied (blitting 0x1300_0000 0x0000_0000 0x0001_0000 0) ≡ (1 ∷ 1 ∷ 1 ∷ 1 ∷ 1 ∷ 0 ∷ [])
 
 abbrev pub P10 : Type 0
-P10 = copied (copying 0x0003_0000 0x0004_0000 2) ≡ (1 ∷ 1 ∷ 2 ∷ 3 ∷ 4 ∷ 0 ∷ [])
+P10 = copied (blitting 0x1300_0000 0x0003_0000 0x0004_0000 2) ≡ (1 ∷ 1 ∷ 2 ∷ 3 ∷ 4 ∷ 0 ∷ [])
 
 -- LINE from (0, 0) to (7, 0), raster code 3, CLIP to columns 2 to 7; dashes of three FORE and three BACK
 abbrev pub dashing : ℕ → Engine
@@ -98,3 +98,39 @@ SolidMovesNothing =
 
 abbrev pub R1 : Type 0
 R1 = EntersInADash × LeavesOutTheLast × SolidMovesNothing
+
+-- Bits of the virtual buffer, or of the display, on the display; raster code 3, FORE 0x11 and BACK 0x22
+abbrev pub bits : List ℕ
+bits = 0x42 ∷ 0xC0 ∷ 0 ∷ 0x02 ∷ []
+
+abbrev pub stippled : Engine → List ℕ
+stippled e = visitsOf 4 4 1 (scene e (0x80 ∷ 2 ∷ 3 ∷ 4 ∷ []) bits) .display
+
+-- Bits 6 to 9 of the row, 1 0 1 1, lie in two bytes: a 1 draws FORE, a 0 draws BACK, or nothing with TRNSP.
+abbrev pub Opaque : Type 0
+Opaque = stippled (blitting 0x1321_0000 0x0006_0000 0x0000_0000 0) ≡ (0x11 ∷ 0x22 ∷ 0x11 ∷ 0x11 ∷ [])
+
+abbrev pub Transparent : Type 0
+Transparent = stippled (blitting 0x1361_0000 0x0006_0000 0x0000_0000 0) ≡ (0x11 ∷ 2 ∷ 0x11 ∷ 0x11 ∷ [])
+
+-- From right to left XY0 is the last bit, and each visit reads one bit further left.
+abbrev pub FromRightToLeft : Type 0
+FromRightToLeft = stippled (blitting 0x1321_0000 0x0009_0000 0x0003_0000 2) ≡ (0x11 ∷ 0x22 ∷ 0x11 ∷ 0x11 ∷ [])
+
+-- The row has bits 0 to 31. Bits 32 and 33 draw nothing, nor do bits -2 and -1, nor those of a row below.
+abbrev pub OutsideDrawsNothing : Type 0
+OutsideDrawsNothing =
+    (stippled (blitting 0x1321_0000 0x001E_0000 0x0000_0000 0) ≡ (0x11 ∷ 0x22 ∷ 3 ∷ 4 ∷ []))
+    × (stippled (blitting 0x1321_0000 0xFFFE_0000 0x0000_0000 0) ≡ (0x80 ∷ 2 ∷ 0x22 ∷ 0x11 ∷ []))
+    × (stippled (blitting 0x1321_0000 0x0006_0001 0x0000_0000 0) ≡ (0x80 ∷ 2 ∷ 3 ∷ 4 ∷ []))
+
+-- With SOLID no bit is read, so nothing is outside.
+abbrev pub SolidReadsNothing : Type 0
+SolidReadsNothing = stippled (blitting 0x13A1_0000 0xFFFE_0001 0x0000_0000 0) ≡ (0x11 ∷ 0x11 ∷ 0x11 ∷ 0x11 ∷ [])
+
+-- From the display itself: the first visit changes the byte 0x80 that the others read to 0x11, so bit 3 is a 1.
+abbrev pub ReadsAsItStands : Type 0
+ReadsAsItStands = stippled (blitting 0x1320_0000 0x0000_0000 0x0000_0000 0) ≡ (0x11 ∷ 0x22 ∷ 0x22 ∷ 0x11 ∷ [])
+
+abbrev pub R2 : Type 0
+R2 = Opaque × Transparent × FromRightToLeft × OutsideDrawsNothing × SolidReadsNothing × ReadsAsItStands

@@ -5,13 +5,15 @@ ghost use lib.Dec.{eqb};
 ghost use lib.ListN.{getD};
 ghost use Rattle.raster.specs.Raster.{newByte};
 ghost use Rattle.commands.specs.Visits.{isLine, lineStart, countOf, visitAt, targetOf};
-ghost use Rattle.commands.specs.Sources.{copiedOf, dashOf, sourceOf};
+ghost use Rattle.commands.specs.Sources.{byBit, copiedOf, stippledOf, readOf, dashOf, sourceOf};
 ghost use Rattle.commands.specs.Steps.{scene, freshEngine, inked, patternAfter, advancedOf, visitOf, patternSet, triggeredOf, takenOf};
 use entries::Command;
 use entries::Entry;
 use entries::command_of;
 use entries::pattern_control_of;
+use geometry::ORIGIN;
 use geometry::Place;
+use geometry::Point;
 use geometry::Visit;
 use geometry::blit_count;
 use geometry::blit_visit;
@@ -168,20 +170,65 @@ impl Engine {
         Source::Value(value)
     }
 
-    // The source of a line's pixel without SOLID.
-    fn dash(self) -> Source
-        ensures { λ r. ⌜ r ≡ dashOf self ⌝ }
+    // What a bit draws, of a stipple or of a line's pattern.
+    fn by_bit(self, one: bool) -> Source
+        ensures { λ r. ⌜ r ≡ byBit self one ⌝ }
     {
         let g = self.registers;
-        let p = self.pattern;
         let c = command_of(g.cmd);
-        if p.bit(g.lpat) {
+        if one {
             return Source::Value(g.fore);
         }
         if c.trnsp {
             return Source::Nothing;
         }
         Source::Value(g.back)
+    }
+
+    // The source of visit k of a blit that reads bits of a buffer.
+    fn stippled(self, width: u32, height: u32, k: usize, buffer: &[u8]) -> Source
+        ensures { λ r. ⌜ r ≡ stippledOf self width height k (now (buffer .entry)) ⌝ }
+    {
+        let g = self.registers;
+        let visit = blit_visit(g.xy0, g.xy2, g.xy3, k);
+        let Visit::At(p) = visit else {
+            return Source::Nothing;
+        };
+        if p.x < ORIGIN {
+            return Source::Nothing;
+        }
+        let x = p.x - ORIGIN;
+        let byte = Point {
+            x: ORIGIN + x / 8,
+            y: p.y,
+        };
+        let place = place_of(width, height, byte);
+        let Place::At(at) = place else {
+            return Source::Nothing;
+        };
+        let value = byte_at(buffer, at);
+        self.by_bit((value >> (7 - x % 8)) % 2 == 1)
+    }
+
+    // The source of visit k of a blit that reads a buffer.
+    fn read(self, width: u32, height: u32, k: usize, buffer: &[u8]) -> Source
+        ensures { λ r. ⌜ r ≡ readOf self width height k (now (buffer .entry)) ⌝ }
+    {
+        let g = self.registers;
+        let c = command_of(g.cmd);
+        if c.stpl {
+            return self.stippled(width, height, k, buffer);
+        }
+        self.copied(width, height, k, buffer)
+    }
+
+    // The source of a line's pixel without SOLID.
+    fn dash(self) -> Source
+        ensures { λ r. ⌜ r ≡ dashOf self ⌝ }
+    {
+        let g = self.registers;
+        let p = self.pattern;
+        self.by_bit(p.bit(g.lpat))
     }
 
     // The source of visit k.
@@ -195,9 +242,9 @@ impl Engine {
         }
         if c.opcode == 1 {
             if c.from_virtual {
-                return self.copied(width, height, k, virt);
+                return self.read(width, height, k, virt);
             }
-            return self.copied(width, height, k, display);
+            return self.read(width, height, k, display);
         }
         self.dash()
     }

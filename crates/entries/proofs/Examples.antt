@@ -1,10 +1,10 @@
--- P8, P11 and P12 hold.
+-- P8, P11 and P12 hold, and what is said of stippled blits.
 -- Assumes nothing.
 use mathlib.Core.Path.{refl}
 use Rattle.entries.specs.Layout.{decodedOf}
 use Rattle.entries.specs.Fields.{lengthOf}
 use Rattle.entries.specs.Legality.{cmdLegal, pctrlLegal, dataLegal}
-use Rattle.entries.specs.Examples.{P8, P11, P12}
+use Rattle.entries.specs.Examples.{P8, P11, P12, StipplesAreLegal}
 
 pub p8 : P8
 unfolding pctrlLegal lengthOf
@@ -17,3 +17,7 @@ p11 = (refl, refl)
 pub p12 : P12
 unfolding decodedOf dataLegal cmdLegal pctrlLegal lengthOf
 p12 = (refl, refl, refl, refl)
+
+pub stipples-are-legal : StipplesAreLegal
+unfolding cmdLegal
+stipples-are-legal = (refl, refl, refl, refl, refl, refl, refl, refl, refl)

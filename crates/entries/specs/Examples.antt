@@ -1,10 +1,10 @@
--- P8, P11 and P12 (01, Boards to check).
+-- P8, P11 and P12 (01, Boards to check). And which stippled blits are legal (02, R-2).
 use mathlib.Core.Path.{_≡_}
 use mathlib.Core.Bool.{true, false}
 use mathlib.Core.List.{List, [], _∷_}
 use Prim.Native.Nat.{ℕ}
 use Rattle.entries.specs.Layout.{decodedOf}
-use Rattle.entries.specs.Legality.{pctrlLegal, dataLegal, legalAt}
+use Rattle.entries.specs.Legality.{cmdLegal, pctrlLegal, dataLegal, legalAt}
 use Rattle.entries.specs.declared.decoding.Decoded.the-variants.{Whole}
 
 abbrev pub P8 : Type 0
@@ -23,3 +23,16 @@ P12 =
     × (legalAt (memory 0x60) 0 ≡ true)
     × (legalAt (memory 0x61) 0 ≡ false)
     × (legalAt (memory 0x68) 0 ≡ false)
+
+-- BITBLT, raster code 3: STPL alone, with TRNSP, with SOLID and with both; not with KEY, NLST or PRST, nor TRNSP alone.
+abbrev pub StipplesAreLegal : Type 0
+StipplesAreLegal =
+    (cmdLegal 0x1320_0000 ≡ true)
+    × (cmdLegal 0x1360_0000 ≡ true)
+    × (cmdLegal 0x13A0_0000 ≡ true)
+    × (cmdLegal 0x13E0_0000 ≡ true)
+    × (cmdLegal 0x1330_0000 ≡ false)
+    × (cmdLegal 0x13B0_0000 ≡ false)
+    × (cmdLegal 0x1328_0000 ≡ false)
+    × (cmdLegal 0x1324_0000 ≡ false)
+    × (cmdLegal 0x1340_0000 ≡ false)

@@ -12,9 +12,14 @@ use Rattle.entries.specs.declared.fields.Command.{Command}
 use Rattle.entries.specs.declared.legality.Illegal.{Illegal}
 use Rattle.entries.specs.declared.legality.Illegal.the-variants.{At, Nowhere}
 
--- "BITBLT: STPL, NLST, PRST zero; TRNSP only with SOLID; KEY only without."
+-- "BITBLT: NLST, PRST zero"; KEY only without SOLID. STPL is legal since 02, R-2: "6 stays for KEY with STPL and for TRNSP with
+-- neither STPL nor SOLID."
 abbrev pub blitLegal : Command → Bool
-blitLegal c = not (c .stpl) && not (c .nlst) && not (c .prst) && (not (c .trnsp) || c .solid) && (not (c .key) || not (c .solid))
+blitLegal c =
+    not (c .nlst)
+    && not (c .prst)
+    && (not (c .trnsp) || (c .stpl || c .solid))
+    && (not (c .key) || not (c .stpl || c .solid))
 
 -- "LINE, PLINE: KEY and source zero; SOLID or STPL set."
 abbrev pub lineLegal : Command → Bool

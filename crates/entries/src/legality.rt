@@ -11,7 +11,7 @@ pub fn legal_cmd(word: u32) -> bool
     ensures { λ r. ⌜ r ≡ cmdLegal word ⌝ }
 {
     let c = command_of(word);
-    let blit = !c.stpl & !c.nlst & !c.prst & (!c.trnsp | c.solid) & (!c.key | !c.solid);
+    let blit = !c.nlst & !c.prst & (!c.trnsp | (c.stpl | c.solid)) & (!c.key | !(c.stpl | c.solid));
     let line = !c.key & !c.from_virtual & (c.solid | c.stpl);
     (word == 0)
         | ((word % 32768 == 0)

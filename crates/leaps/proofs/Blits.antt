@@ -3,17 +3,17 @@
 use mathlib.Core.Path.{_≡_, refl, ap, ap₂, sym, _∙_}
 use mathlib.Core.Bool.{Bool, true, false, not, cond, _&&_, _||_, and-true}
 use mathlib.Core.List.{List}
-use Prim.Native.Nat.{ℕ, _%_, _<_}
-use native.Mathlib.Nat.{mod-eq-of-lt}
+use Prim.Native.Nat.{ℕ, _+_, _-_, _*_, _/_, _%_, _<_}
+use native.Mathlib.Nat.{mod-eq-of-lt, mul-left-comm}
 use native.Mathlib.Omega.{arith}
 use lib.Dec.{eqb}
 use lib.ListN.{getD, set}
 use lib.Seq.{set-getD}
 use Rattle.lemmas.proofs.Booleans.{by-cases}
-use Rattle.raster.specs.Raster.{newByte}
+use Rattle.raster.specs.Raster.{bit, newByte}
 use Rattle.raster.specs.Selectors.{drawn, selected}
 use Rattle.raster.proofs.Wide.{pen-as, selectors-as}
-use Rattle.geometry.specs.Coordinates.{pointOf}
+use Rattle.geometry.specs.Coordinates.{origin, pointOf}
 use Rattle.geometry.specs.Clip.{inBuffer, placeOf, inWindow, placeIn}
 use Rattle.geometry.specs.Blit.{blitCount, blitPoint}
 use Rattle.geometry.specs.declared.Point.{Point}
@@ -23,13 +23,14 @@ use Rattle.geometry.specs.declared.Visit.the-variants.{At as VisitAt}
 use Rattle.geometry.proofs.Blits.{blit-at}
 use Rattle.geometry.proofs.Windows.{window-lets-through}
 use Rattle.rows.specs.Rows.{mixed}
-use Rattle.blits.specs.Blits.{painted, reads, visited}
+use Rattle.stipples.specs.Stipples.{bitAt, stippled}
+use Rattle.blits.specs.Blits.{painted, reads, sourcePixels, visited}
 use Rattle.blits.specs.declared.Paint.{Paint}
-use Rattle.blits.specs.declared.Paint.the-variants.{Solid, Copied, Moved}
+use Rattle.blits.specs.declared.Paint.the-variants.{Solid}
 use Rattle.commands.specs.Visits.{commandIn, isBlit, countOf, visitAt, clippedOut, throughTo, targetOf}
-use Rattle.commands.specs.Sources.{keyed, readAt, copiedAt, copiedOf, sourceOf}
+use Rattle.commands.specs.Sources.{keyed, readAt, copiedAt, copiedOf, byBit, bitOf, stippledAt, stippledOf, readOf, sourceOf}
 use Rattle.commands.specs.Steps.{inked}
-use Rattle.leaps.specs.Leaps.{penIn, mixIn, paintOf, blitIn, windowIn}
+use Rattle.leaps.specs.Leaps.{penIn, mixIn, stippleIn, fromOther, fromOwn, paintOf, blitIn, windowIn}
 use Rattle.commands.specs.declared.Engine.{Engine}
 use Rattle.commands.specs.declared.Source.{Source}
 use Rattle.commands.specs.declared.Source.the-variants.{Value, Nothing}
@@ -82,8 +83,32 @@ module _ (e : Engine) (width height k : ℕ) (blit : isBlit (commandIn e) ≡ tr
       ap (copiedAt e width height buffer) (sym (blit-at (pointOf (e .registers .xy0)) (e .registers .xy2) (e .registers .xy3) k below))
       ∙ read-at (inBuffer width height source) buffer (placeIn width source)
 
+  stippled-is : (buffer : List ℕ)
+      → stippledOf e width height k buffer ≡ cond (inBuffer (8 * width) height source) (byBit e (bitOf width buffer source)) Nothing
+  unfolding stippledOf
+  stippled-is buffer =
+      ap (stippledAt e width height buffer) (sym (blit-at (pointOf (e .registers .xy0)) (e .registers .xy2) (e .registers .xy3) k below))
+
+-- bit x of row y is bit x mod 8 of byte x div 8: rows are whole bytes
+bit-is : (width : ℕ) (buffer : List ℕ) (p : Point) → bitOf width buffer p ≡ bitAt buffer (placeIn (8 * width) p)
+bit-is width buffer p =
+    let x = p .x - origin in
+    let y = p .y - origin in
+    ap₂ (λ k i. eqb (bit (7 - k) (getD buffer i 0)) 1) (first x (y * width) (y * (8 * width)) (mul-left-comm y 8 width))
+    (byte x (y * width) (y * (8 * width)) (mul-left-comm y 8 width))
+  where
+    first : (x bytes bits : ℕ) → bits ≡ 8 * bytes → x % 8 ≡ (bits + x) % 8
+    first x bytes bits h = omega arith
+
+    byte : (x bytes bits : ℕ) → bits ≡ 8 * bytes → bytes + x / 8 ≡ (bits + x) / 8
+    byte x bytes bits h = omega arith
+
 pub code-small : (e : Engine) → commandIn e .code < 256
 code-small e = omega arith
+
+-- the new byte of a value is drawn by its pen
+value-drawn : (e : Engine) (v old : ℕ) → newByte (commandIn e .code) v old (e .registers .mask) ≡ drawn (penIn e v) old
+value-drawn e v old = sym (pen-as (commandIn e .code) (e .registers .mask) (code-small e) v old)
 
 -- the mark of a value at a place that may be hidden
 pub ink-value : (e : Engine) (v : ℕ) (t : Bool) (i : ℕ) (l : List ℕ)
@@ -108,52 +133,80 @@ ink-keyed e s i l small =
     ∙ ap (λ t. set l i (cond t (getD l i 0) (drawn (selected (mixIn e .selectors) s) (getD l i 0))))
     (sym (ap (λ k. commandIn e .key && eqb s k) same ∙ t)))
 
--- a byte that is read, at a place and from a place that may be hidden
-ink-read : (e : Engine) (s : ℕ) (t u : Bool) (i : ℕ) (l : List ℕ) → e .registers .key < 256
-    → inked e (cond u (keyed e s) Nothing) (cond t (At i) Outside) l ≡ cond (t && u) (set l i (mixed (mixIn e) s (getD l i 0))) l
-ink-read e s true true i l small = ink-keyed e s i l small
-ink-read e s true false i l small = refl
-ink-read e s false u i l small = hidden u
+-- the mark of a bit
+ink-bit : (e : Engine) (one : Bool) (i : ℕ) (l : List ℕ) → inked e (byBit e one) (At i) l ≡ set l i (stippled (stippleIn e) one (getD l i 0))
+ink-bit e true i l = ap (set l i) (value-drawn e (e .registers .fore) (getD l i 0))
+ink-bit e false i l = by (commandIn e .trnsp)
+  where
+    by : (t : Bool)
+        → inked e (cond t Nothing (Value (e .registers .back))) (At i) l
+        ≡ set l i (cond t (getD l i 0) (drawn (penIn e (e .registers .back)) (getD l i 0)))
+    by true = sym (set-getD l i 0)
+    by false = ap (set l i) (value-drawn e (e .registers .back) (getD l i 0))
+
+-- what is read, at a place and from a place that may be hidden
+ink-read : (e : Engine) (s : Source) (x : ℕ) (t u : Bool) (i : ℕ) (l : List ℕ) → inked e s (At i) l ≡ set l i x
+    → inked e (cond u s Nothing) (cond t (At i) Outside) l ≡ cond (t && u) (set l i x) l
+ink-read e s x true true i l h = h
+ink-read e s x true false i l h = refl
+ink-read e s x false u i l h = kept (cond u s Nothing)
   where
     kept : (o : Source) → inked e o Outside l ≡ l
     kept (Value v) = refl
     kept Nothing = refl
-
-    hidden : (u : Bool) → inked e (cond u (keyed e s) Nothing) Outside l ≡ l
-    hidden u = kept (cond u (keyed e s) Nothing)
 
 -- a visit's mark, by what the blit is painted from
 module _ (e : Engine) (width height k : ℕ) (blit : isBlit (commandIn e) ≡ true) (few : k < countOf e) (small : e .registers .key < 256) where
   abbrev at : ℕ
   at = placeIn width (target e width height k blit few)
 
-  abbrev from : ℕ
-  from = placeIn width (source e width height k blit few)
-
-  abbrev inside : Bool
-  inside = inBuffer width height (source e width height k blit few)
-
   abbrev shown : Bool
   shown = seen e width height k blit few
 
+  -- the source in rows of so many pixels
+  abbrev from : ℕ → ℕ
+  from stride = placeIn stride (source e width height k blit few)
+
+  abbrev inside : ℕ → Bool
+  inside stride = inBuffer stride height (source e width height k blit few)
+
   -- a visit of a blit with this paint
   abbrev marked : Paint → List ℕ → List ℕ → List ℕ
-  marked paint other l = cond (shown && (not (reads paint) || inside)) (set l at (painted paint other l from (getD l at 0))) l
+  marked paint other l =
+      let stride = sourcePixels paint width in
+      cond (shown && (not (reads paint) || inside stride)) (set l at (painted paint other l (from stride) (getD l at 0))) l
 
   solid-marks : (l other : List ℕ)
       → inked e (Value (e .registers .fore)) (targetOf e width height k) l
       ≡ marked (Solid (penIn e (e .registers .fore))) other l
   solid-marks l other =
       ap (λ q. inked e (Value (e .registers .fore)) q l) (place-is e width height k blit few) ∙ ink-value e (e .registers .fore) shown at l
-      ∙ ap₂ (λ t x. cond t (set l at x) l) (sym (and-true shown))
-      (sym (pen-as (commandIn e .code) (e .registers .mask) (code-small e) (e .registers .fore) (getD l at 0)))
+      ∙ ap₂ (λ t x. cond t (set l at x) l) (sym (and-true shown)) (value-drawn e (e .registers .fore) (getD l at 0))
 
-  read-marks : (l buffer : List ℕ)
+  byte-marks : (l buffer : List ℕ)
       → inked e (copiedOf e width height k buffer) (targetOf e width height k) l
-      ≡ cond (shown && inside) (set l at (mixed (mixIn e) (getD buffer from 0) (getD l at 0))) l
-  read-marks l buffer =
+      ≡ cond (shown && inside width) (set l at (mixed (mixIn e) (getD buffer (from width) 0) (getD l at 0))) l
+  byte-marks l buffer =
+      let s = getD buffer (from width) 0 in
       ap₂ (λ s q. inked e s q l) (copied-is e width height k blit few buffer) (place-is e width height k blit few)
-      ∙ ink-read e (getD buffer from 0) shown inside at l small
+      ∙ ink-read e (keyed e s) (mixed (mixIn e) s (getD l at 0)) shown (inside width) at l (ink-keyed e s at l small)
+
+  bit-marks : (l buffer : List ℕ)
+      → inked e (stippledOf e width height k buffer) (targetOf e width height k) l
+      ≡ cond (shown && inside (8 * width)) (set l at (stippled (stippleIn e) (bitAt buffer (from (8 * width))) (getD l at 0))) l
+  bit-marks l buffer =
+      let p = source e width height k blit few in
+      let one = bitOf width buffer p in
+      ap₂ (λ s q. inked e s q l) (stippled-is e width height k blit few buffer) (place-is e width height k blit few)
+      ∙ ink-read e (byBit e one) (stippled (stippleIn e) one (getD l at 0)) shown (inside (8 * width)) at l (ink-bit e one at l)
+      ∙ ap (λ one. cond (shown && inside (8 * width)) (set l at (stippled (stippleIn e) one (getD l at 0))) l) (bit-is width buffer p)
+
+  -- from the other buffer, and from the one that is drawn on
+  other-marks : (l other : List ℕ) → inked e (readOf e width height k other) (targetOf e width height k) l ≡ marked (fromOther e) other l
+  other-marks l other = by-cases (commandIn e .stpl) (λ t. rw t (bit-marks l other)) (λ t. rw t (byte-marks l other))
+
+  own-marks : (l other : List ℕ) → inked e (readOf e width height k l) (targetOf e width height k) l ≡ marked (fromOwn e) other l
+  own-marks l other = by-cases (commandIn e .stpl) (λ t. rw t (bit-marks l l)) (λ t. rw t (byte-marks l l))
 
   -- the mark on the buffer that is drawn on, beside the other one
   abbrev Marks : Source → List ℕ → List ℕ → Type 0
@@ -172,13 +225,13 @@ module _ (e : Engine) (width height k : ℕ) (blit : isBlit (commandIn e) ≡ tr
       → commandIn e .«from_virtual» ≡ from → MarksOn to own other
   unfolding sourceOf paintOf
   read-marks-on true true own other s v f =
-      marks-as (Moved (mixIn e)) (sourceOf e width height k other own) own other (rw (s, v, f)) (rw (s, blit, f) (read-marks own own))
+      marks-as (fromOwn e) (sourceOf e width height k other own) own other (rw (s, v, f)) (rw (s, blit, f) (own-marks own other))
   read-marks-on true false own other s v f =
-      marks-as (Copied (mixIn e)) (sourceOf e width height k other own) own other (rw (s, v, f)) (rw (s, blit, f) (read-marks own other))
+      marks-as (fromOther e) (sourceOf e width height k other own) own other (rw (s, v, f)) (rw (s, blit, f) (other-marks own other))
   read-marks-on false true own other s v f =
-      marks-as (Copied (mixIn e)) (sourceOf e width height k own other) own other (rw (s, v, f)) (rw (s, blit, f) (read-marks own other))
+      marks-as (fromOther e) (sourceOf e width height k own other) own other (rw (s, v, f)) (rw (s, blit, f) (other-marks own other))
   read-marks-on false false own other s v f =
-      marks-as (Moved (mixIn e)) (sourceOf e width height k own other) own other (rw (s, v, f)) (rw (s, blit, f) (read-marks own own))
+      marks-as (fromOwn e) (sourceOf e width height k own other) own other (rw (s, v, f)) (rw (s, blit, f) (own-marks own other))
 
   pub marks-on : (to : Bool) (own other : List ℕ) → commandIn e .«to_virtual» ≡ to → MarksOn to own other
   unfolding sourceOf paintOf

@@ -1,7 +1,7 @@
 -- Many visits of a blit are the rows that the row loops draw.
 -- Assumes nothing.
 use mathlib.Core.Path.{_≡_, refl, ap, sym, _∙_}
-use mathlib.Core.Bool.{Bool, true, false, _&&_, _||_}
+use mathlib.Core.Bool.{Bool, true, false, cond, _&&_, _||_}
 use mathlib.Core.List.{List}
 use Prim.Native.Nat.{ℕ, _+_, _-_, _*_, _≤_, _<_, min, max}
 use native.Mathlib.Omega.{arith}
@@ -13,7 +13,7 @@ use Rattle.lemmas.specs.Turns.{inTurn}
 use Rattle.geometry.specs.Coordinates.{origin}
 use Rattle.geometry.specs.Clip.{rectOf, windowOf}
 use Rattle.geometry.specs.Blit.{blitCount}
-use Rattle.blits.specs.declared.Paint.the-variants.{Solid, Copied, Moved}
+use Rattle.blits.specs.declared.Paint.the-variants.{Solid}
 use Rattle.blits.specs.Blits.{visited, windowInside, blitFits, blitted}
 use Rattle.blits.proofs.Loops.{blit-in}
 use Rattle.entries.specs.declared.fields.Command.{Command}
@@ -22,7 +22,8 @@ use Rattle.commands.specs.Visits.{commandIn, isBlit, isLine, countOf}
 use Rattle.commands.specs.Steps.{patternAfter, visitsOf}
 use Rattle.commands.specs.declared.Engine.{Engine}
 use Rattle.commands.proofs.Bounds.{count-same}
-use Rattle.leaps.specs.Leaps.{penIn, mixIn, paintOf, blitIn, movedTo, movedBy, canLeap, goesByRows}
+use Rattle.commands.proofs.Tests.{flag-is}
+use Rattle.leaps.specs.Leaps.{penIn, fromOther, fromOwn, paintOf, blitIn, movedTo, movedBy, canLeap, goesByRows}
 use Rattle.leaps.proofs.Visiting.{sceneOn, Marked, visits-are, Leaps, leaps-of}
 use Rattle.leaps.proofs.Blits.{count-is, marks-on}
 
@@ -109,26 +110,16 @@ module _ (e : Engine) (n width height display virt : ℕ) (g : Goes e n width he
 
 -- what a blit draws with, by its flags
 module _ (e : Engine) (c : Command) (is : c ≡ commandIn e) where
-  paint-of : (b : Bool) → (f : Command → Bool) → f c ≡ b → f (commandIn e) ≡ b
-  paint-of b f h = ap f (sym is) ∙ h
-
   pub solid-paint : c .solid ≡ true → Solid (penIn e (e .registers .fore)) ≡ paintOf e
   unfolding paintOf
-  solid-paint s = rw (paint-of true (λ c. c .solid) s)
+  solid-paint s = rw (flag-is e c is (λ c. c .solid) true s)
 
-  module _ (plain : c .solid ≡ false) where
-    pub moved-virtual : c .«to_virtual» ≡ true → c .«from_virtual» ≡ true → Moved (mixIn e) ≡ paintOf e
-    unfolding paintOf
-    moved-virtual t f = rw (paint-of false (λ c. c .solid) plain, paint-of true (λ c. c .«to_virtual») t, paint-of true (λ c. c .«from_virtual») f)
-
-    pub copied-virtual : c .«to_virtual» ≡ true → c .«from_virtual» ≡ false → Copied (mixIn e) ≡ paintOf e
-    unfolding paintOf
-    copied-virtual t f = rw (paint-of false (λ c. c .solid) plain, paint-of true (λ c. c .«to_virtual») t, paint-of false (λ c. c .«from_virtual») f)
-
-    pub copied-display : c .«to_virtual» ≡ false → c .«from_virtual» ≡ true → Copied (mixIn e) ≡ paintOf e
-    unfolding paintOf
-    copied-display t f = rw (paint-of false (λ c. c .solid) plain, paint-of false (λ c. c .«to_virtual») t, paint-of true (λ c. c .«from_virtual») f)
-
-    pub moved-display : c .«to_virtual» ≡ false → c .«from_virtual» ≡ false → Moved (mixIn e) ≡ paintOf e
-    unfolding paintOf
-    moved-display t f = rw (paint-of false (λ c. c .solid) plain, paint-of false (λ c. c .«to_virtual») t, paint-of false (λ c. c .«from_virtual») f)
+  pub read-paint : (to from : Bool) → c .solid ≡ false → c .«to_virtual» ≡ to → c .«from_virtual» ≡ from
+      → cond to (cond from (fromOwn e) (fromOther e)) (cond from (fromOther e) (fromOwn e)) ≡ paintOf e
+  unfolding paintOf
+  read-paint to from s t f =
+      rw (
+        flag-is e c is (λ c. c .solid) false s,
+        flag-is e c is (λ c. c .«to_virtual») to t,
+        flag-is e c is (λ c. c .«from_virtual») from f,
+      )

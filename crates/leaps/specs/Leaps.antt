@@ -9,9 +9,10 @@ use Rattle.geometry.specs.Coordinates.{pointOf}
 use Rattle.geometry.specs.Clip.{windowOf}
 use Rattle.geometry.specs.declared.Window.{Window}
 use Rattle.rows.specs.declared.Mix.{Mix}
+use Rattle.stipples.specs.declared.Stipple.{Stipple}
 use Rattle.blits.specs.declared.Blit.{Blit}
 use Rattle.blits.specs.declared.Paint.{Paint}
-use Rattle.blits.specs.declared.Paint.the-variants.{Solid, Copied, Moved}
+use Rattle.blits.specs.declared.Paint.the-variants.{Solid, Copied, Moved, Stippled, StippledWithin}
 use Rattle.entries.specs.Fields.{patternControlOf}
 use Rattle.registers.specs.declared.dashes.Pattern.{Pattern}
 use Rattle.strokes.specs.Strokes.{strokeOf, Dashed, dashed, dashesOf}
@@ -34,13 +35,27 @@ mixIn e =
       key = e .registers .key % 256;
     }
 
--- A blit draws with FORE, from the other buffer, or from the one that it draws on.
+abbrev pub stippleIn : Engine → Stipple
+stippleIn e =
+    record {
+      fore = penIn e (e .registers .fore);
+      back = penIn e (e .registers .back);
+      clear = commandIn e .trnsp;
+    }
+
+-- A blit draws with FORE, or from bytes or bits of the other buffer, or of the one that it draws on.
+abbrev pub fromOther : Engine → Paint
+fromOther e = cond (commandIn e .stpl) (Stippled (stippleIn e)) (Copied (mixIn e))
+
+abbrev pub fromOwn : Engine → Paint
+fromOwn e = cond (commandIn e .stpl) (StippledWithin (stippleIn e)) (Moved (mixIn e))
+
 unfoldable pub paintOf : Engine → Paint
 paintOf e =
     cond (commandIn e .solid) (Solid (penIn e (e .registers .fore)))
     (cond (commandIn e .«to_virtual»)
-    (cond (commandIn e .«from_virtual») (Moved (mixIn e)) (Copied (mixIn e)))
-    (cond (commandIn e .«from_virtual») (Copied (mixIn e)) (Moved (mixIn e))))
+    (cond (commandIn e .«from_virtual») (fromOwn e) (fromOther e))
+    (cond (commandIn e .«from_virtual») (fromOther e) (fromOwn e)))
 
 abbrev pub blitIn : Engine → ℕ → ℕ → Blit
 blitIn e width height =

@@ -6,7 +6,7 @@ ghost use lib.ListN.{length};
 ghost use Rattle.commands.specs.Visits.{countOf};
 ghost use Rattle.commands.specs.Steps.{scene, visitsOf};
 ghost use Rattle.strokes.specs.Strokes.{dashed};
-ghost use Rattle.leaps.specs.Leaps.{mixIn, paintOf, blitIn, penIn, strokeIn, movedBy, canLeap, goesByRows, goesByStroke};
+ghost use Rattle.leaps.specs.Leaps.{mixIn, stippleIn, fromOther, fromOwn, paintOf, blitIn, penIn, strokeIn, movedBy, canLeap, goesByRows, goesByStroke};
 use blits::Blit;
 use blits::Paint;
 use blits::draw_blit;
@@ -19,6 +19,7 @@ use raster::Pen;
 use raster::Selectors;
 use registers::Pattern;
 use rows::Mix;
+use stipples::Stipple;
 use strokes::Dashes;
 use strokes::draw_dashes;
 use strokes::draw_line;
@@ -44,6 +45,41 @@ fn pen(e: Engine, value: u32) -> Pen
     Pen::new(c.code, (value % 256) as u8, (g.mask % 256) as u8)
 }
 
+fn stipple(e: Engine) -> Stipple
+    ensures { λ r. ⌜ r ≡ stippleIn e ⌝ }
+{
+    let g = e.registers;
+    let c = command_of(g.cmd);
+    Stipple {
+        fore: pen(e, g.fore),
+        back: pen(e, g.back),
+        clear: c.trnsp,
+    }
+}
+
+// What a blit draws with that reads the other buffer, and one that reads its own.
+fn from_other(e: Engine) -> Paint
+    ensures { λ r. ⌜ r ≡ fromOther e ⌝ }
+{
+    let g = e.registers;
+    let c = command_of(g.cmd);
+    if c.stpl {
+        return Paint::Stippled(stipple(e));
+    }
+    Paint::Copied(mix(e))
+}
+
+fn from_own(e: Engine) -> Paint
+    ensures { λ r. ⌜ r ≡ fromOwn e ⌝ }
+{
+    let g = e.registers;
+    let c = command_of(g.cmd);
+    if c.stpl {
+        return Paint::StippledWithin(stipple(e));
+    }
+    Paint::Moved(mix(e))
+}
+
 // What the blit in CMD draws with.
 fn paint(e: Engine) -> Paint
     ensures { λ r. ⌜ r ≡ paintOf e ⌝ }
@@ -53,17 +89,16 @@ fn paint(e: Engine) -> Paint
     if c.solid {
         return Paint::Solid(pen(e, g.fore));
     }
-    let mix = mix(e);
     if c.to_virtual {
         if c.from_virtual {
-            return Paint::Moved(mix);
+            return from_own(e);
         }
-        return Paint::Copied(mix);
+        return from_other(e);
     }
     if c.from_virtual {
-        return Paint::Copied(mix);
+        return from_other(e);
     }
-    Paint::Moved(mix)
+    from_own(e)
 }
 
 // The blit in CMD, on buffers of width x height pixels.

@@ -22,7 +22,7 @@ abbrev normal : (ℕ → ℕ) → ℕ → ℕ
 normal f x = bitXor (bitAnd x (bitXor (f 255) (f 0))) (f 0)
 
 -- on a bit
-taken : (a b : ℕ) → a < 2 → b < 2 → differ (min 1 (differ a b)) b ≡ a
+pub taken : (a b : ℕ) → a < 2 → b < 2 → differ (min 1 (differ a b)) b ≡ a
 taken a b h k =
     bit-ind (λ (a : ℕ). differ (min 1 (differ a b)) b ≡ a) (bit-ind (λ (b : ℕ). differ (min 1 (differ 0 b)) b ≡ 0) refl refl b k)
     (bit-ind (λ (b : ℕ). differ (min 1 (differ 1 b)) b ≡ 1) refl refl b k) a h

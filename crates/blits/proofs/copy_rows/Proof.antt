@@ -15,22 +15,22 @@ use Rattle.blits.proofs.copy_rows.Statement.{statement}
 use Rattle.blits.proofs.copy_rows.Tie as tie
 
 abbrev Inv-loop : tie.InvT-loop
-Inv-loop up width buffer₀ at other from n rows mix to₀ source₀ k₀ buffer to source k =
+Inv-loop up width stride buffer₀ at other from n rows mix to₀ source₀ k₀ buffer to source k =
     (k ≤ rows)
     × (length buffer ≡ length buffer₀)
     × RowsFit up width at n rows (length buffer₀)
-    × RowsFit up width from n rows (length other)
+    × RowsFit up stride from n rows (length other)
     × (to ≡ away up at (width * k))
-    × (source ≡ away up from (width * k))
-    × ((back : Bool) → buffer ≡ inTurn (rowAt (Copied mix) back up width other at from n) k buffer₀)
+    × (source ≡ away up from (stride * k))
+    × ((back : Bool) → buffer ≡ inTurn (rowAt (Copied mix) back up width stride other at from n) k buffer₀)
 
 abbrev μ-loop : tie.MeasureT-loop
-μ-loop up width buffer₀ at other from n rows mix to₀ source₀ k₀ buffer to source k = rows - k
+μ-loop up width stride buffer₀ at other from n rows mix to₀ source₀ k₀ buffer to source k = rows - k
 
 loop-holds : tie.Need-loop-holds Inv-loop μ-loop
 loop-holds c = let start = c .before .before in
     let s = start .args in
-    (omega arith, refl, start .pre .0, start .pre .1, first-row (s .up) (s .width) (s .at), first-row (s .up) (s .width) (s .from), λ back. turn-none _ _)
+    (omega arith, refl, start .pre .0, start .pre .1, first-row (s .up) (s .width) (s .at), first-row (s .up) (s .stride) (s .from), λ back. turn-none _ _)
 
 copy-row-requires : tie.Need-copy-row-requires Inv-loop μ-loop
 copy-row-requires c κs = search needs
@@ -57,9 +57,9 @@ loop-again c =
       at .loop .inv .2,
       at .loop .inv .3,
       next-row (s .up) (s .width) (s .at) _ _ _ (at .loop .inv .4) (c .before .along .ensures),
-      next-row (s .up) (s .width) (s .from) _ _ _ (at .loop .inv .5) (c .along2 .ensures),
+      next-row (s .up) (s .stride) (s .from) _ _ _ (at .loop .inv .5) (c .along2 .ensures),
       λ back.
-          row-more _ back (s .up) (s .width) _ (s .at) (s .from) (s .n) (at .loop .k) _ _ _ _ _ (at .loop .inv .6 back) (at .loop .inv .4) (at .loop .inv .5)
+          row-more _ back (s .up) (s .width) (s .stride) _ (s .at) (s .from) (s .n) (at .loop .k) _ _ _ _ _ (at .loop .inv .6 back) (at .loop .inv .4) (at .loop .inv .5)
           (copied-from back _ _ _ _ _ _ _
           (rw (at .loop .inv .1) (row-inside _ _ _ _ _ _ _ _ (at .loop .inv .2) (at .loop .inv .4) (omega arith)))
           (row-inside _ _ _ _ _ _ _ _ (at .loop .inv .3) (at .loop .inv .5) (omega arith)) (done .copy-row .ensures)),

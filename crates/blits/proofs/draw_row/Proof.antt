@@ -9,9 +9,6 @@ use Rattle.blits.proofs.draw_row.Tie as tie
 wide : (c : tie.Start) → c .args .b .width < 4294967296
 wide c = search needs
 
-high : (c : tie.Start) → c .args .b .height < 4294967296
-high c = search needs
-
 part-requires : tie.Need-part-requires
 part-requires c κs = search needs
 
@@ -25,7 +22,7 @@ paint-box-requires c κs =
     let start = columns .before .before .before in
     let s = start .args in
     row-box-fits (s .b) (s .other .now) (s .row) (s .column) (s .m) _ (start .pre .0) _ _ (columns .part .ensures ∙ ap (λ seen. partOf (seen .columns) (s .column) (s .m)) (start .pre .1)) (rows .part2 .ensures ∙ ap (λ seen. partOf (seen .rows) (s .row) 1) (start .pre .1))
-    (wide start) (high start)
+    (wide start)
 
 same-length : tie.Need-same-length
 same-length c = search needs

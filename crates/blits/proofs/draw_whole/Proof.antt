@@ -10,9 +10,6 @@ use Rattle.blits.proofs.draw_whole.Tie as tie
 wide : (c : tie.Start) → c .args .b .width < 4294967296
 wide c = search needs
 
-high : (c : tie.Start) → c .args .b .height < 4294967296
-high c = search needs
-
 size-small : (c : tie.Start) → c .args .b .size < 4294967296
 size-small c = search needs
 
@@ -32,7 +29,7 @@ paint-box-requires c κs =
     let start = columns .before .before .before .before in
     let s = start .args in
     whole-box-fits (s .b) (s .other .now) (s .rows) _ (start .pre .0) (size-small start) (start .pre .1) _ _ (columns .part .ensures ∙ ap (λ seen. partOf (seen .columns) 0 (widthOf (s .b .size))) (start .pre .2)) (rows .part2 .ensures ∙ ap (λ seen. partOf (seen .rows) 0 (s .rows)) (start .pre .2))
-    (wide start) (high start)
+    (wide start)
 
 same-length : tie.Need-same-length
 same-length c = search needs

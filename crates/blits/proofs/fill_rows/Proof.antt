@@ -21,7 +21,7 @@ Inv-loop up width buffer₀ at n rows pen to₀ k₀ buffer to k =
     × (length buffer ≡ length buffer₀)
     × RowsFit up width at n rows (length buffer₀)
     × (to ≡ away up at (width * k))
-    × ((back : Bool) (other : List ℕ) (from : ℕ) → buffer ≡ inTurn (rowAt (Solid pen) back up width other at from n) k buffer₀)
+    × ((back : Bool) (stride : ℕ) (other : List ℕ) (from : ℕ) → buffer ≡ inTurn (rowAt (Solid pen) back up width stride other at from n) k buffer₀)
 
 abbrev μ-loop : tie.MeasureT-loop
 μ-loop up width buffer₀ at n rows pen to₀ k₀ buffer to k = rows - k
@@ -30,7 +30,7 @@ loop-holds : tie.Need-loop-holds Inv-loop μ-loop
 loop-holds c =
     let start = c .before in
     let s = start .args in
-    (omega arith, refl, start .pre, first-row (s .up) (s .width) (s .at), λ back other from. turn-none _ _)
+    (omega arith, refl, start .pre, first-row (s .up) (s .width) (s .at), λ back stride other from. turn-none _ _)
 
 fill-one-requires : tie.Need-fill-one-requires Inv-loop μ-loop
 fill-one-requires c κs = search needs
@@ -53,8 +53,8 @@ loop-again c =
       done .fill-one .kept .0 ∙ at .loop .inv .1,
       at .loop .inv .2,
       next-row (s .up) (s .width) (s .at) _ _ _ (at .loop .inv .3) (c .along .ensures),
-      λ back other from.
-          row-more _ back (s .up) (s .width) other (s .at) from (s .n) (at .loop .k) _ _ _ _ _ (at .loop .inv .4 back other from) (at .loop .inv .3) refl
+      λ back stride other from.
+          row-more _ back (s .up) (s .width) stride other (s .at) from (s .n) (at .loop .k) _ _ _ _ _ (at .loop .inv .4 back stride other from) (at .loop .inv .3) refl
           (solid-row back _ other _ _ _ _ _
           (rw (at .loop .inv .1) (row-inside _ _ _ _ _ _ _ _ (at .loop .inv .2) (at .loop .inv .3) (omega arith))) (done .fill-one .ensures)),
     )
@@ -63,7 +63,7 @@ same-length : tie.Need-same-length Inv-loop μ-loop
 same-length c = c .before .loop .inv .1
 
 returns : tie.Need-returns Inv-loop μ-loop
-returns c = let at = c .before in λ back other from. turn-end _ _ _ _ _ (at .loop .inv .0) (omega arith) (at .loop .inv .4 back other from)
+returns c = let at = c .before in λ back stride other from. turn-end _ _ _ _ _ (at .loop .inv .0) (omega arith) (at .loop .inv .4 back stride other from)
 
 pub fill-rows-spec : {M : Type 1} → statement M
 fill-rows-spec =

@@ -13,22 +13,22 @@ use Rattle.blits.proofs.move_rows.Statement.{statement}
 use Rattle.blits.proofs.move_rows.Tie as tie
 
 abbrev Inv-loop : tie.InvT-loop
-Inv-loop back up width buffer₀ at from n rows mix to₀ source₀ k₀ buffer to source k =
+Inv-loop back up width stride buffer₀ at from n rows mix to₀ source₀ k₀ buffer to source k =
     (k ≤ rows)
     × (length buffer ≡ length buffer₀)
     × RowsFit up width at n rows (length buffer₀)
-    × RowsFit up width from n rows (length buffer₀)
+    × RowsFit up stride from n rows (length buffer₀)
     × (to ≡ away up at (width * k))
-    × (source ≡ away up from (width * k))
-    × ((other : List ℕ) → buffer ≡ inTurn (rowAt (Moved mix) back up width other at from n) k buffer₀)
+    × (source ≡ away up from (stride * k))
+    × ((other : List ℕ) → buffer ≡ inTurn (rowAt (Moved mix) back up width stride other at from n) k buffer₀)
 
 abbrev μ-loop : tie.MeasureT-loop
-μ-loop back up width buffer₀ at from n rows mix to₀ source₀ k₀ buffer to source k = rows - k
+μ-loop back up width stride buffer₀ at from n rows mix to₀ source₀ k₀ buffer to source k = rows - k
 
 loop-holds : tie.Need-loop-holds Inv-loop μ-loop
 loop-holds c = let start = c .before in
     let s = start .args in
-    (omega arith, refl, start .pre .0, start .pre .1, first-row (s .up) (s .width) (s .at), first-row (s .up) (s .width) (s .from), λ other. turn-none _ _)
+    (omega arith, refl, start .pre .0, start .pre .1, first-row (s .up) (s .width) (s .at), first-row (s .up) (s .stride) (s .from), λ other. turn-none _ _)
 
 move-pixels-requires : tie.Need-move-pixels-requires Inv-loop μ-loop
 move-pixels-requires c κs =
@@ -60,9 +60,9 @@ loop-again c =
       at .loop .inv .2,
       at .loop .inv .3,
       next-row (s .up) (s .width) (s .at) _ _ _ (at .loop .inv .4) (c .before .along .ensures),
-      next-row (s .up) (s .width) (s .from) _ _ _ (at .loop .inv .5) (c .along2 .ensures),
+      next-row (s .up) (s .stride) (s .from) _ _ _ (at .loop .inv .5) (c .along2 .ensures),
       λ other.
-          row-more _ _ (s .up) (s .width) other (s .at) (s .from) (s .n) (at .loop .k) _ _ _ _ _ (at .loop .inv .6 other) (at .loop .inv .4) (at .loop .inv .5) (done .move-pixels .ensures other),
+          row-more _ _ (s .up) (s .width) (s .stride) other (s .at) (s .from) (s .n) (at .loop .k) _ _ _ _ _ (at .loop .inv .6 other) (at .loop .inv .4) (at .loop .inv .5) (done .move-pixels .ensures other),
     )
 
 same-length : tie.Need-same-length Inv-loop μ-loop

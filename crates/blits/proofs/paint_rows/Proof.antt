@@ -1,7 +1,7 @@
 use borrow.Author.Needs.{needs}
 use mathlib.Core.Path.{ap}
 use Rattle.blits.specs.Blits.{reads}
-use Rattle.blits.proofs.Steps.{rows-by-paint}
+use Rattle.blits.proofs.Steps.{rows-by-paint, stride-by-paint, fit-by-paint}
 use Rattle.blits.proofs.paint_rows.Statement.{statement}
 use Rattle.blits.proofs.paint_rows.Tie as tie
 
@@ -18,7 +18,9 @@ copy-rows-requires : tie.Need-copy-rows-requires
 copy-rows-requires c κs =
     let told = c .before .before in
     let start = told .before .before .before .before in
-    (start .pre .0, rw (start .pre .1) (start .pre .2 (ap reads (told .paint2 .given .1))))
+    let s = start .args in
+    let is = told .paint2 .given .1 in
+    (start .pre .0, rw (start .pre .1) (fit-by-paint _ _ (s .up) (s .stride) (s .from) (s .n) (s .rows) _ is (start .pre .2 (ap reads is))))
 
 enum-known-paint-3 : tie.Need-enum-known-paint-3
 enum-known-paint-3 c = search needs
@@ -27,7 +29,31 @@ move-rows-requires : tie.Need-move-rows-requires
 move-rows-requires c κs =
     let told = c .before .before in
     let start = told .before .before .before .before in
-    (start .pre .0, start .pre .2 (ap reads (told .paint3 .given .1)))
+    let s = start .args in
+    let is = told .paint3 .given .1 in
+    (start .pre .0, fit-by-paint _ _ (s .up) (s .stride) (s .from) (s .n) (s .rows) _ is (start .pre .2 (ap reads is)))
+
+enum-known-paint-4 : tie.Need-enum-known-paint-4
+enum-known-paint-4 c = search needs
+
+stipple-rows-requires : tie.Need-stipple-rows-requires
+stipple-rows-requires c κs =
+    let told = c .before .before in
+    let start = told .before .before .before .before in
+    let s = start .args in
+    let is = told .paint4 .given .1 in
+    (start .pre .0, rw (start .pre .1, ← stride-by-paint _ _ (s .width) (s .stride) is (start .pre .3)) (fit-by-paint _ _ (s .up) (s .stride) (s .from) (s .n) (s .rows) _ is (start .pre .2 (ap reads is))))
+
+enum-known-paint-5 : tie.Need-enum-known-paint-5
+enum-known-paint-5 c = search needs
+
+stipple-within-requires : tie.Need-stipple-within-requires
+stipple-within-requires c κs =
+    let told = c .before .before in
+    let start = told .before .before .before .before in
+    let s = start .args in
+    let is = told .paint5 .given .1 in
+    (start .pre .0, rw (← stride-by-paint _ _ (s .width) (s .stride) is (start .pre .3)) (fit-by-paint _ _ (s .up) (s .stride) (s .from) (s .n) (s .rows) _ is (start .pre .2 (ap reads is))))
 
 same-length : tie.Need-same-length
 same-length c = search needs
@@ -37,7 +63,8 @@ returns c =
     let done = c .before .before in
     let told = done .before .before .before in
     let s = told .before .before .before .before .args in
-    rows-by-paint _ _ (s .back) (s .up) (s .width) (s .other .now) (s .at) (s .from) (s .n) (s .rows) _ _ (told .paint .given .1) (done .fill-rows .ensures (s .back) (s .other .now) (s .from))
+    let is = told .paint .given .1 in
+    rows-by-paint _ _ (s .back) (s .up) (s .width) (s .stride) (s .other .now) (s .at) (s .from) (s .n) (s .rows) _ _ is (done .fill-rows .ensures (s .back) (s .stride) (s .other .now) (s .from))
 
 same-length-2 : tie.Need-same-length-2
 same-length-2 c = search needs
@@ -47,7 +74,8 @@ returns-2 c =
     let done = c .before .before in
     let told = done .before .before .before in
     let s = told .before .before .before .before .args in
-    rows-by-paint _ _ (s .back) (s .up) (s .width) (s .other .now) (s .at) (s .from) (s .n) (s .rows) _ _ (told .paint2 .given .1) (done .copy-rows .ensures (s .back))
+    let is = told .paint2 .given .1 in
+    rows-by-paint _ _ (s .back) (s .up) (s .width) (s .stride) (s .other .now) (s .at) (s .from) (s .n) (s .rows) _ _ is (done .copy-rows .ensures (s .back))
 
 same-length-3 : tie.Need-same-length-3
 same-length-3 c = search needs
@@ -57,7 +85,32 @@ returns-3 c =
     let done = c .before .before in
     let told = done .before .before .before in
     let s = told .before .before .before .before .args in
-    rows-by-paint _ _ (s .back) (s .up) (s .width) (s .other .now) (s .at) (s .from) (s .n) (s .rows) _ _ (told .paint3 .given .1) (done .move-rows .ensures (s .other .now))
+    let is = told .paint3 .given .1 in
+    rows-by-paint _ _ (s .back) (s .up) (s .width) (s .stride) (s .other .now) (s .at) (s .from) (s .n) (s .rows) _ _ is (done .move-rows .ensures (s .other .now))
+
+same-length-4 : tie.Need-same-length-4
+same-length-4 c = search needs
+
+returns-4 : tie.Need-returns-4
+returns-4 c =
+    let done = c .before .before in
+    let told = done .before .before .before in
+    let start = told .before .before .before .before in
+    let s = start .args in
+    let is = told .paint4 .given .1 in
+    rows-by-paint _ _ (s .back) (s .up) (s .width) (s .stride) (s .other .now) (s .at) (s .from) (s .n) (s .rows) _ _ is (rw (stride-by-paint _ _ (s .width) (s .stride) is (start .pre .3)) (done .stipple-rows .ensures (s .back)))
+
+same-length-5 : tie.Need-same-length-5
+same-length-5 c = search needs
+
+returns-5 : tie.Need-returns-5
+returns-5 c =
+    let done = c .before .before in
+    let told = done .before .before .before in
+    let start = told .before .before .before .before in
+    let s = start .args in
+    let is = told .paint5 .given .1 in
+    rows-by-paint _ _ (s .back) (s .up) (s .width) (s .stride) (s .other .now) (s .at) (s .from) (s .n) (s .rows) _ _ is (rw (stride-by-paint _ _ (s .width) (s .stride) is (start .pre .3)) (done .stipple-within .ensures (s .other .now)))
 
 pub paint-rows-spec : {M : Type 1} → statement M
 paint-rows-spec =
@@ -69,9 +122,17 @@ paint-rows-spec =
     copy-rows-requires
     enum-known-paint-3
     move-rows-requires
+    enum-known-paint-4
+    stipple-rows-requires
+    enum-known-paint-5
+    stipple-within-requires
     same-length
     returns
     same-length-2
     returns-2
     same-length-3
-    returns-3)
+    returns-3
+    same-length-4
+    returns-4
+    same-length-5
+    returns-5)

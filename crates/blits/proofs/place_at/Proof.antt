@@ -12,18 +12,19 @@ point-of-requires : tie.Need-point-of-requires
 point-of-requires c κs = search needs
 
 left-edge-requires : tie.Need-left-edge-requires
-left-edge-requires c κs = let start = c .before in rw (c .point-of .ensures) (x-from (start .args .corner), x-below (start .args .corner), start .pre .0, start .pre .1)
+left-edge-requires c κs = let start = c .before in rw (c .point-of .ensures) (x-from (start .args .corner), x-below (start .args .corner), start .pre .1, start .pre .2)
 
 along-requires : tie.Need-along-requires
-along-requires c κs = let start = c .before .before in rw (c .before .point-of .ensures) (omega (arith, y-below (start .args .corner), start .pre .2))
+along-requires c κs = let start = c .before .before in rw (c .before .point-of .ensures) (omega (arith, y-below (start .args .corner), start .pre .3))
 
 place-in-requires : tie.Need-place-in-requires
 place-in-requires c κs =
     let start = c .before .before .before in
     let s = start .args in
     rw (c .along .ensures, c .before .left-edge .ensures, c .before .before .point-of .ensures) (
-      edge-below (rightToLeft (s .direction)) (pointOf (s .corner) .x) (s .a) (s .z) (x-below (s .corner)) (omega (arith, start .pre .0, start .pre .1)),
-      away-below (bottomToTop (s .direction)) (pointOf (s .corner) .y) (s .row) (y-below (s .corner)) (start .pre .2),
+      start .pre .0,
+      edge-below (rightToLeft (s .direction)) (pointOf (s .corner) .x) (s .a) (s .z) (x-below (s .corner)) (omega (arith, start .pre .1, start .pre .2)),
+      away-below (bottomToTop (s .direction)) (pointOf (s .corner) .y) (s .row) (y-below (s .corner)) (start .pre .3),
     )
 
 returns : tie.Need-returns

@@ -12,8 +12,8 @@ returns : tie.Need-returns
 unfolding sourceOf
 returns c = rw (flag-is (c .before .before .before .before .before .args .self) _ (c .before .command-of .ensures) (λ c. c .solid) true (c .if1 .taken))
 
-copied-requires : tie.Need-copied-requires
-copied-requires c κs = search needs
+read-requires : tie.Need-read-requires
+read-requires c κs = search needs
 
 returns-2 : tie.Need-returns-2
 unfolding sourceOf
@@ -27,10 +27,10 @@ returns-2 c =
       opcode-yes e _ said 1 (blit .if2 .taken),
       flag-is e _ said (λ c. c .«from_virtual») true (c .before .if3 .taken),
     )
-    (c .copied .ensures)
+    (c .read .ensures)
 
-copied-requires-2 : tie.Need-copied-requires-2
-copied-requires-2 c κs = search needs
+read-requires-2 : tie.Need-read-requires-2
+read-requires-2 c κs = search needs
 
 returns-3 : tie.Need-returns-3
 unfolding sourceOf
@@ -44,7 +44,7 @@ returns-3 c =
       opcode-yes e _ said 1 (blit .if2 .taken),
       flag-is e _ said (λ c. c .«from_virtual») false (c .before .if3 .left),
     )
-    (c .copied2 .ensures)
+    (c .read2 .ensures)
 
 dash-requires : tie.Need-dash-requires
 dash-requires c κs = search needs
@@ -63,9 +63,9 @@ source-spec =
     (tie.spec
     command-of-requires
     returns
-    copied-requires
+    read-requires
     returns-2
-    copied-requires-2
+    read-requires-2
     returns-3
     dash-requires
     returns-4)

@@ -8,7 +8,7 @@ command-of-requires c κs = search needs
 
 returns : tie.Need-returns
 unfolding cmdLegal
-returns c = rw (c .before .before .before .before .before .before .before .before .before .before .before .before .before .command-of .ensures)
+returns c = rw (c .before .before .before .before .before .before .before .before .before .before .before .before .command-of .ensures)
 
 pub legal-cmd-spec : {M : Type 1} → statement M
 legal-cmd-spec = tie.close (tie.spec command-of-requires returns)

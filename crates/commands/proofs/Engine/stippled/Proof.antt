@@ -1,0 +1,105 @@
+use borrow.Author.Needs.{needs}
+use mathlib.Core.Path.{ap, _∙_}
+use Prim.Native.Nat.{_-_, _%_}
+use lib.Dec.{eqb}
+use Rattle.raster.specs.Raster.{bit}
+use Rattle.geometry.specs.Coordinates.{origin}
+use Rattle.commands.specs.Sources.{byBit}
+use Rattle.commands.proofs.Bits.{stippled-by, left-of-bits, bit-by}
+use Rattle.commands.proofs.Engine.stippled.Statement.{statement}
+use Rattle.commands.proofs.Engine.stippled.Tie as tie
+
+blit-visit-requires : tie.Need-blit-visit-requires
+blit-visit-requires c κs = search needs
+
+enum-known-visit : tie.Need-enum-known-visit
+enum-known-visit c = search needs
+
+enum-told : tie.Need-enum-told
+enum-told c = search needs
+
+returns : tie.Need-returns
+returns c =
+    let first = c .before .before in
+    let s = first .before .before .before .args in
+    stippled-by (s .self) (s .width) (s .height) (s .k) (s .buffer .now) _ _ (first .blit-visit .ensures) (c .enum-told .given .1)
+
+returns-2 : tie.Need-returns-2
+returns-2 c =
+    let found = c .before .before .before in
+    let first = found .before .before in
+    let s = first .before .before .before .args in
+    left-of-bits (s .self) (s .width) (s .height) (s .buffer .now) (found .visit .given .0 .0) (c .if1 .taken)
+    ∙ stippled-by (s .self) (s .width) (s .height) (s .k) (s .buffer .now) _ _ (first .blit-visit .ensures) (found .visit .given .1)
+
+add-by-bit : tie.Need-add-by-bit
+add-by-bit c = search needs
+
+place-of-requires : tie.Need-place-of-requires
+place-of-requires c κs = search needs
+
+enum-known-place : tie.Need-enum-known-place
+enum-known-place c = search needs
+
+enum-told-2 : tie.Need-enum-told-2
+enum-told-2 c = search needs
+
+returns-3 : tie.Need-returns-3
+returns-3 c =
+    let o = c .before .before in
+    let right = o .before .before in
+    let found = right .before .before .before in
+    let first = found .before .before in
+    let s = first .before .before .before .args in
+    bit-by (s .self) (s .width) (s .height) (s .buffer .now) _ (right .if1 .left) _ _ (o .place-of .ensures) (c .enum-told2 .given .1)
+    ∙ stippled-by (s .self) (s .width) (s .height) (s .k) (s .buffer .now) _ _ (first .blit-visit .ensures) (found .visit .given .1)
+
+byte-at-requires : tie.Need-byte-at-requires
+byte-at-requires c κs = search needs
+
+sub-by-bit : tie.Need-sub-by-bit
+sub-by-bit c = search needs
+
+cast-by-bit : tie.Need-cast-by-bit
+cast-by-bit c = search needs
+
+shr-by-bit : tie.Need-shr-by-bit
+shr-by-bit c = search needs
+
+by-bit-requires : tie.Need-by-bit-requires
+by-bit-requires c κs = search needs
+
+returns-4 : tie.Need-returns-4
+returns-4 c =
+    let told = c .before .before .before in
+    let o = told .before .before in
+    let right = o .before .before in
+    let found = right .before .before .before in
+    let first = found .before .before in
+    let s = first .before .before .before .args in
+    let p = found .visit .given .0 .0 in
+    c .by-bit .ensures
+    ∙ ap (λ v. byBit (s .self) (eqb (bit (7 - (p .x - origin) % 8) v) 1)) (c .before .byte-at .ensures)
+    ∙ bit-by (s .self) (s .width) (s .height) (s .buffer .now) _ (right .if1 .left) _ _ (o .place-of .ensures) (told .place .given .1)
+    ∙ stippled-by (s .self) (s .width) (s .height) (s .k) (s .buffer .now) _ _ (first .blit-visit .ensures) (found .visit .given .1)
+
+pub stippled-spec : {M : Type 1} → statement M
+stippled-spec =
+    tie.close
+    (tie.spec
+    blit-visit-requires
+    enum-known-visit
+    enum-told
+    returns
+    returns-2
+    add-by-bit
+    place-of-requires
+    enum-known-place
+    enum-told-2
+    returns-3
+    byte-at-requires
+    sub-by-bit
+    cast-by-bit
+    shr-by-bit
+    by-bit-requires
+    returns-4)

@@ -1,0 +1,14 @@
+use borrow.Author.Needs.{needs}
+use Rattle.stipples.specs.Words.{inked}
+use Rattle.stipples.proofs.Inks.draw.Statement.{statement}
+use Rattle.stipples.proofs.Inks.draw.Tie as tie
+
+spread-requires : tie.Need-spread-requires
+spread-requires c κs = search needs
+
+returns : tie.Need-returns
+unfolding inked
+returns c = rw (c .before .before .before .before .spread .ensures)
+
+pub draw-spec : {M : Type 1} → statement M
+draw-spec = tie.close (tie.spec spread-requires returns)

@@ -1,0 +1,2 @@
+pub mod Stipples
+pub mod Words
