@@ -102,22 +102,21 @@ impl State {
     }
 
     /// "Source is FORE with SOLID, else the source buffer's pixel; a source pixel
-    /// outside its buffer, or equal to KEY with KEY set, draws nothing."
+    /// outside its buffer, or equal to KEY with KEY set, draws nothing." Of STPL:
+    /// "With SOLID the source is FORE everywhere and no bit is read" (document 02, R-2).
     fn draw_blit_pixel(&self, i: u32, buffers: &mut Buffers) {
         let command = self.command();
-        let offset = self.blit_offset(i);
-        let at = |corner: usize| {
-            let corner = point(self.registers[corner]);
-            Point {
-                x: corner.x + offset.x,
-                y: corner.y + offset.y,
-            }
-        };
+        let at = |corner| self.blit_pixel(corner, i);
         let Some(index) = self.let_through(at(register::XY1), buffers) else {
             return;
         };
         let source = if command.has(flag::SOLID) {
             self.byte(register::FORE)
+        } else if command.has(flag::STPL) {
+            let Some(source) = self.stipple_source(at(register::XY0), buffers) else {
+                return;
+            };
+            source
         } else {
             let Some(from) = buffers.index(at(register::XY0)) else {
                 return;
@@ -129,6 +128,30 @@ impl State {
             pixel
         };
         self.put(index, source, buffers);
+    }
+
+    /// "XY0 is then a bit position, bit x of row y being bit 7 - (x mod 8) of byte
+    /// x div 8 in row y of the source buffer. A 1 draws FORE; a 0 draws BACK, or nothing
+    /// with TRNSP." "a bit outside the buffer draws nothing" (document 02, R-2).
+    fn stipple_source(&self, bit: Point, buffers: &Buffers) -> Option<u8> {
+        let place = Point {
+            x: bit.x.div_euclid(8),
+            y: bit.y,
+        };
+        let from = buffers.index(place)?;
+        let byte = buffers.pixels[usize::from(self.command().has(flag::SOURCE))][from];
+        self.bit_source(u32::from(byte) >> (7 - bit.x.rem_euclid(8)) & 1)
+    }
+
+    /// Where pixel i lies as seen from the corner XY0 or XY1. With STPL too: "Direction,
+    /// clip, mask and steps are as for other blits" (document 02, R-2).
+    pub fn blit_pixel(&self, corner: usize, i: u32) -> Point {
+        let corner = point(self.registers[corner]);
+        let offset = self.blit_offset(i);
+        Point {
+            x: corner.x + offset.x,
+            y: corner.y + offset.y,
+        }
     }
 
     /// "BITBLT visits width x height pixels in rows. XY3 1 and 3 go bottom to top, 2
@@ -161,11 +184,18 @@ impl State {
     /// "Source is FORE with SOLID; else the pattern bit: 1 FORE, 0 BACK, or nothing
     /// with TRNSP."
     fn line_source(&self) -> Option<u8> {
-        let command = self.command();
-        let pattern_bit = self.registers[register::LPAT] >> self.pattern_place & 1;
-        if command.has(flag::SOLID) || pattern_bit == 1 {
+        if self.command().has(flag::SOLID) {
+            return Some(self.byte(register::FORE));
+        }
+        self.bit_source(self.registers[register::LPAT] >> self.pattern_place & 1)
+    }
+
+    /// What a bit draws, of a line's pattern or of a stippled blit's source: "1 FORE, 0
+    /// BACK, or nothing with TRNSP".
+    fn bit_source(&self, bit: u32) -> Option<u8> {
+        if bit == 1 {
             Some(self.byte(register::FORE))
-        } else if command.has(flag::TRNSP) {
+        } else if self.command().has(flag::TRNSP) {
             None
         } else {
             Some(self.byte(register::BACK))

@@ -103,7 +103,8 @@ impl Command {
 
 /// "NOOP: all else zero. Other opcodes are illegal. BITBLT: STPL, NLST, PRST zero;
 /// TRNSP only with SOLID; KEY only without. LINE, PLINE: KEY and source zero; SOLID
-/// or STPL set."
+/// or STPL set." Then "BITBLT with STPL becomes legal"; "6 stays for KEY with STPL
+/// and for TRNSP with neither STPL nor SOLID" (document 02, R-2).
 fn legal_command(command: Command) -> bool {
     let has = |flag| command.has(flag);
     let rest_zero = command.0 & 0x7FFF == 0;
@@ -111,9 +112,10 @@ fn legal_command(command: Command) -> bool {
         opcode::NOOP => command.0 == 0,
         opcode::BITBLT => {
             rest_zero
-                && !(has(flag::STPL) || has(flag::NLST) || has(flag::PRST))
-                && (has(flag::SOLID) || !has(flag::TRNSP))
+                && !(has(flag::NLST) || has(flag::PRST))
+                && (has(flag::SOLID) || has(flag::STPL) || !has(flag::TRNSP))
                 && !(has(flag::SOLID) && has(flag::KEY))
+                && !(has(flag::STPL) && has(flag::KEY))
         }
         opcode::LINE | opcode::PLINE => {
             rest_zero

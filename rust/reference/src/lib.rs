@@ -1,5 +1,6 @@
-//! The drawing engine of document 01, written a second time from that document
-//! alone, so that the proved engine can be compared with it.
+//! The drawing engine of document 01, with the requests of document 02 that are made,
+//! written a second time from those documents alone, so that the proved engine can be
+//! compared with it.
 //!
 //! It is written to be read against the document, not to be fast: whole numbers
 //! are wide, each pixel is worked out from its own number in the command, and the

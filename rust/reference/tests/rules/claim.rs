@@ -31,7 +31,13 @@ impl Random {
     /// An entry, most often legal, with coordinates on or near the board.
     fn entry(&mut self) -> [u8; 5] {
         let near = xy(self.below(14) as i32 - 3, self.below(10) as i32 - 3);
-        let commands = [0x1000_0000, 0x2020_0000, 0x2080_0000, 0x5020_0000];
+        let commands = [
+            0x1000_0000,
+            0x1020_0000,
+            0x2020_0000,
+            0x2080_0000,
+            0x5020_0000,
+        ];
         let flags = [0, TRNSP, KEYED, NLST, PRST, CLIP, FROM_VIRTUAL, TO_VIRTUAL];
         let raster = self.word() & 0x0F00_0000;
         let command = self.pick(&commands) | self.pick(&flags) | self.pick(&flags) | raster;

@@ -1,4 +1,5 @@
-//! The rules of document 01, by its sections and by the readings of it.
+//! The rules of document 01, by its sections and by the readings of it, and the
+//! requests of document 02 that are made.
 
 mod boards;
 mod claim;
@@ -7,3 +8,4 @@ mod grounds;
 mod malformed;
 mod paper;
 mod pixels;
+mod stipples;

@@ -55,7 +55,7 @@ const WORDS: [(usize, u32, bool); 40] = [
     (CMD, FILL | KEYED, false),
     (CMD, COPY | KEYED, true),
     (CMD, COPY | TRNSP, false),
-    (CMD, COPY | STPL, false),
+    (CMD, COPY | STPL, true),
     (CMD, COPY | NLST, false),
     (CMD, COPY | PRST, false),
     (CMD, COPY | 1 << 14, false),
