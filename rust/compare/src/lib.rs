@@ -12,4 +12,5 @@ pub mod random;
 pub mod sequence;
 pub mod sides;
 pub mod spoil;
+pub mod stipples;
 pub mod tally;

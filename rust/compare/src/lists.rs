@@ -1,11 +1,11 @@
 //! Random entries of display lists: mostly legal, of every register and command, on the board, near it and far from it.
 
 use crate::random::Random;
-use reference::Record;
 use reference::entries::register::{
-    CLPBR, CLPTL, CMD, COUNT, LPAT, MASK, PCTRL, XY0, XY1, XY2, XY3,
+    BACK, CLPBR, CLPTL, CMD, COUNT, FORE, LPAT, MASK, PCTRL, XY0, XY1, XY2, XY3,
 };
 use reference::entries::{flag, opcode};
+use reference::{Record, drawing};
 use std::ops::RangeInclusive;
 
 /// Bytes of an entry.
@@ -13,6 +13,54 @@ pub const ENTRY: usize = 5;
 
 /// How often each register is written, by its number.
 const OFTEN: [u64; COUNT] = [8, 2, 2, 2, 2, 2, 3, 2, 2, 6, 5, 4, 12];
+
+/// The fill styles of blits, without STPL and with it.
+const PLAIN: [&[u32]; 6] = [
+    &[flag::SOLID],
+    &[flag::SOLID, flag::TRNSP],
+    &[],
+    &[],
+    &[flag::KEY],
+    &[flag::KEY],
+];
+const STIPPLED: [&[u32]; 6] = [
+    &[flag::STPL],
+    &[flag::STPL],
+    &[flag::STPL, flag::TRNSP],
+    &[flag::STPL, flag::TRNSP],
+    &[flag::SOLID, flag::STPL],
+    &[flag::SOLID, flag::STPL, flag::TRNSP],
+];
+
+/// Entries that are not legal, or only just.
+const DOUBTFUL: [(usize, u32); 26] = [
+    (CMD, 0x0100_0000),
+    (CMD, 0x0000_8000),
+    (CMD, 0x2300_0000),
+    (CMD, 0x3380_0000),
+    (CMD, 0x1340_0000),
+    (CMD, 0x1390_0000),
+    (CMD, 0x1320_0000),
+    (CMD, 0x1360_0000),
+    (CMD, 0x1330_0000),
+    (CMD, 0x13B0_0000),
+    (CMD, 0x1328_0000),
+    (CMD, 0x1324_0000),
+    (CMD, 0x2381_0000),
+    (CMD, 0x5390_0000),
+    (MASK, 255),
+    (MASK, 256),
+    (PCTRL, 0x2003),
+    (PCTRL, 0x0303),
+    (PCTRL, 0x0203),
+    (PCTRL, 0x1F00),
+    (PCTRL, 0x0010_0000),
+    (XY2, 0x0800_0800),
+    (XY2, 0x0801_0000),
+    (XY2, 0x0000_0801),
+    (XY3, 3),
+    (XY3, 4),
+];
 
 /// A board's size, which the coordinates go by.
 #[derive(Clone, Copy)]
@@ -50,6 +98,10 @@ pub fn list(random: &mut Random, size: Size, entries: usize) -> Vec<u8> {
         let line = crossing_line(random, size);
         put_anywhere(random, &mut bytes, &line);
     }
+    if random.one_in(3) {
+        let glyph = glyph(random, size);
+        put_anywhere(random, &mut bytes, &glyph);
+    }
     if random.one_in(8) {
         let entry = doubtful_entry(random, size);
         put_anywhere(random, &mut bytes, &entry);
@@ -80,10 +132,35 @@ fn crossing_line(random: &mut Random, size: Size) -> Vec<u8> {
         across(random, y, size.height),
     );
     let command = opcode::LINE << 28 | 3 << 24 | line_flags(random);
-    [(CMD, command), (XY0, halves(x, y)), (XY1, end)]
-        .into_iter()
-        .flat_map(|(register, data)| entry(register, data))
-        .collect()
+    entries(&[(CMD, command), (XY0, halves(x, y)), (XY1, end)])
+}
+
+/// A blit with STPL. Every other one draws near the bytes of its bits, and in one buffer it then reads what it wrote.
+fn glyph(random: &mut Random, size: Size) -> Vec<u8> {
+    let flags = blit_flags(random, &STIPPLED);
+    let command = opcode::BITBLT << 28 | raster_code(random) << 24 | flags;
+    let from = bit_position(random, size);
+    let to = if random.one_in(2) {
+        point(random, size)
+    } else {
+        let bit = drawing::point(from);
+        let x = bit.x.div_euclid(8) + random.between(-3, 3);
+        halves(x, bit.y + random.between(-1, 1))
+    };
+    entries(&[
+        (FORE, colour(random)),
+        (BACK, colour(random)),
+        (CMD, command),
+        (XY0, from),
+        (XY2, extent(random, size)),
+        (XY3, random.below(4) as u32),
+        (XY1, to),
+    ])
+}
+
+fn entries(list: &[(usize, u32)]) -> Vec<u8> {
+    let bytes = |&(register, data): &(usize, u32)| entry(register, data);
+    list.iter().flat_map(bytes).collect()
 }
 
 /// A legal entry.
@@ -101,28 +178,7 @@ pub fn doubtful_entry(random: &mut Random, size: Size) -> [u8; ENTRY] {
         2 => bytes[random.below(5) as usize] ^= 1 << random.below(8),
         3 => return entry(random.below(COUNT as u64) as usize, random.half()),
         _ => {
-            let (register, data) = random.pick(&[
-                (CMD, 0x0100_0000),
-                (CMD, 0x0000_8000),
-                (CMD, 0x2300_0000),
-                (CMD, 0x3380_0000),
-                (CMD, 0x1340_0000),
-                (CMD, 0x1390_0000),
-                (CMD, 0x2381_0000),
-                (CMD, 0x5390_0000),
-                (MASK, 255),
-                (MASK, 256),
-                (PCTRL, 0x2003),
-                (PCTRL, 0x0303),
-                (PCTRL, 0x0203),
-                (PCTRL, 0x1F00),
-                (PCTRL, 0x0010_0000),
-                (XY2, 0x0800_0800),
-                (XY2, 0x0801_0000),
-                (XY2, 0x0000_0801),
-                (XY3, 3),
-                (XY3, 4),
-            ]);
+            let (register, data) = random.pick(&DOUBTFUL);
             return entry(register, data);
         }
     }
@@ -138,6 +194,7 @@ pub fn legal_data(random: &mut Random, size: Size, register: usize) -> u32 {
         PCTRL => pattern_control(random),
         CLPTL => clip_corner(random, size, (0, 0)),
         CLPBR => clip_corner(random, size, (size.width, size.height)),
+        XY0 if random.one_in(6) => bit_position(random, size),
         XY0 | XY1 => point(random, size),
         XY2 => extent(random, size),
         XY3 => random.below(4) as u32,
@@ -161,27 +218,24 @@ fn colour(random: &mut Random) -> u32 {
 
 fn command(random: &mut Random) -> u32 {
     let opcodes = [opcode::NOOP, opcode::BITBLT, opcode::LINE, opcode::PLINE];
-    let opcode = opcodes[random.weighted(&[1, 8, 6, 6])];
-    let code = any_or(random, 0..=15, &[3, 3, 0, 6, 12, 15]) as u32;
+    let opcode = opcodes[random.weighted(&[1, 10, 6, 6])];
+    let code = raster_code(random);
     let flags = match opcode {
         opcode::NOOP => return 0,
-        opcode::BITBLT => blit_flags(random),
+        opcode::BITBLT if random.one_in(3) => blit_flags(random, &STIPPLED),
+        opcode::BITBLT => blit_flags(random, &PLAIN),
         _ => line_flags(random),
     };
     opcode << 28 | code << 24 | flags
 }
 
-fn blit_flags(random: &mut Random) -> u32 {
-    let styles: [&[u32]; 6] = [
-        &[flag::SOLID],
-        &[flag::SOLID, flag::TRNSP],
-        &[],
-        &[],
-        &[flag::KEY],
-        &[flag::KEY],
-    ];
+fn raster_code(random: &mut Random) -> u32 {
+    any_or(random, 0..=15, &[3, 3, 0, 6, 12, 15]) as u32
+}
+
+fn blit_flags(random: &mut Random, styles: &[&[u32]]) -> u32 {
     let free = bits(&[flag::CLIP, flag::SOURCE, flag::DESTINATION]);
-    bits(random.pick(&styles)) | random.half() & free
+    bits(random.pick(styles)) | random.half() & free
 }
 
 fn line_flags(random: &mut Random) -> u32 {
@@ -239,6 +293,15 @@ pub fn point(random: &mut Random, size: Size) -> u32 {
     halves(x, y)
 }
 
+/// A bit of a buffer as a point: each byte of a row is eight columns.
+fn bit_position(random: &mut Random, size: Size) -> u32 {
+    let bits = Size {
+        width: 8 * size.width,
+        ..size
+    };
+    point(random, bits)
+}
+
 fn coordinate(random: &mut Random, limit: i64) -> i64 {
     let edge = limit.min(8);
     match random.weighted(&[700, 400, 400, 600, 80, 2, 1]) {
@@ -279,20 +342,30 @@ fn side(random: &mut Random, limit: i64) -> i64 {
 
 #[cfg(test)]
 mod tests {
-    use super::{ENTRY, Size, doubtful_entry, legal_entry};
+    use super::{ENTRY, Size, doubtful_entry, glyph, legal_entry};
     use crate::random::Random;
     use reference::entries::entry_at;
+
+    const SIZE: Size = Size {
+        width: 7,
+        height: 5,
+    };
 
     #[test]
     fn legal_entries_are_legal_and_doubtful_ones_often_not() {
         let mut random = Random::new(1);
-        let size = Size {
-            width: 7,
-            height: 5,
-        };
         let is_legal = |entry: [u8; ENTRY]| entry_at(&entry, 0).is_some();
-        assert!((0..10_000).all(|_| is_legal(legal_entry(&mut random, size))));
-        let legal = (0..1_000).filter(|_| is_legal(doubtful_entry(&mut random, size)));
+        assert!((0..10_000).all(|_| is_legal(legal_entry(&mut random, SIZE))));
+        let legal = (0..1_000).filter(|_| is_legal(doubtful_entry(&mut random, SIZE)));
         assert!((50..500).contains(&legal.count()));
+    }
+
+    #[test]
+    fn glyphs_are_legal() {
+        let mut random = Random::new(1);
+        for _ in 0..1_000 {
+            let glyph = glyph(&mut random, SIZE);
+            assert!((0..glyph.len() / ENTRY).all(|place| entry_at(&glyph, place).is_some()));
+        }
     }
 }

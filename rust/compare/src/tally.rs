@@ -2,14 +2,22 @@
 
 use crate::call::{ALLOWED, CALLS, Call};
 use crate::sequence::{KINDS, Kind};
-use reference::entries::{flag, opcode};
+use crate::stipples::{STIPPLES, Stipple, ignores_bits, reads_bits};
+use reference::entries::{Command, flag, opcode};
 use reference::{Heard, Record};
 
-const OPCODES: [(&str, u32); 3] = [
-    ("BITBLT", opcode::BITBLT),
-    ("LINE", opcode::LINE),
-    ("PLINE", opcode::PLINE),
+/// A kind of command, by name.
+type Commands = (&'static str, fn(Command) -> bool);
+
+const COMMANDS: [Commands; 5] = [
+    ("BITBLT", is_blit),
+    ("stippled BITBLT", reads_bits),
+    ("BITBLT with SOLID and STPL", ignores_bits),
+    ("LINE", |command| command.opcode() == opcode::LINE),
+    ("PLINE", |command| command.opcode() == opcode::PLINE),
 ];
+
+const BLITS: [Commands; 2] = [("blit", is_blit), ("stippled blit", reads_bits)];
 
 const FLAGS: [(&str, u32); 9] = [
     ("SOLID", flag::SOLID),
@@ -34,10 +42,12 @@ pub struct Tally {
     steps: u64,
     /// The steps of the longest run.
     longest: u64,
-    /// Commands left under way by a run: by opcode and raster code, by flag, blits by XY3.
-    codes: [[u64; 16]; OPCODES.len()],
+    /// Commands left under way by a run: by kind and raster code, by flag, blits by XY3,
+    /// stippled blits by what they do.
+    codes: [[u64; 16]; COMMANDS.len()],
     flags: [u64; FLAGS.len()],
-    directions: [u64; 4],
+    directions: [[u64; 4]; BLITS.len()],
+    stipples: [u64; STIPPLES.len()],
 }
 
 impl Tally {
@@ -58,14 +68,19 @@ impl Tally {
 
     fn cut(&mut self, record: &Record) {
         let command = record.state().command();
-        for (counts, (_, opcode)) in self.codes.iter_mut().zip(OPCODES) {
-            counts[command.raster_code() as usize] += u64::from(command.opcode() == opcode);
+        for (counts, (_, is)) in self.codes.iter_mut().zip(COMMANDS) {
+            counts[command.raster_code() as usize] += u64::from(is(command));
         }
         for (count, (_, flag)) in self.flags.iter_mut().zip(FLAGS) {
             *count += u64::from(command.has(flag));
         }
-        if command.opcode() == opcode::BITBLT {
-            self.directions[record.xy3 as usize] += 1;
+        for (counts, (_, is)) in self.directions.iter_mut().zip(BLITS) {
+            counts[record.xy3 as usize] += u64::from(is(command));
+        }
+        if let Some(blit) = Stipple::under_way(record) {
+            for (count, (_, does)) in self.stipples.iter_mut().zip(STIPPLES) {
+                *count += u64::from(does(&blit));
+            }
         }
     }
 
@@ -90,7 +105,11 @@ impl Tally {
         self.longest = self.longest.max(other.longest);
         add(self.codes.as_flattened_mut(), other.codes.as_flattened());
         add(&mut self.flags, &other.flags);
-        add(&mut self.directions, &other.directions);
+        add(
+            self.directions.as_flattened_mut(),
+            other.directions.as_flattened(),
+        );
+        add(&mut self.stipples, &other.stipples);
     }
 
     /// Each thing that has to come up, and whether it did.
@@ -109,15 +128,20 @@ impl Tally {
             format!("a run of more than {LONG} steps"),
             self.longest > LONG,
         ));
-        for (counts, (name, _)) in self.codes.iter().zip(OPCODES) {
+        for (counts, (name, _)) in self.codes.iter().zip(COMMANDS) {
             let name = format!("{name} is cut under every raster code");
             checks.push((name, counts.iter().all(|&count| count > 0)));
         }
         for (&count, (name, _)) in self.flags.iter().zip(FLAGS) {
             checks.push((format!("a command with {name} is cut"), count > 0));
         }
-        for (direction, &count) in self.directions.iter().enumerate() {
-            checks.push((format!("a blit with XY3 {direction} is cut"), count > 0));
+        for (counts, (name, _)) in self.directions.iter().zip(BLITS) {
+            for (direction, &count) in counts.iter().enumerate() {
+                checks.push((format!("a {name} with XY3 {direction} is cut"), count > 0));
+            }
+        }
+        for (&count, (name, _)) in self.stipples.iter().zip(STIPPLES) {
+            checks.push((format!("a stippled blit that {name} is cut"), count > 0));
         }
         checks
     }
@@ -141,14 +165,25 @@ impl Tally {
             println!();
         }
         println!("commands that a budget cut:");
-        for (counts, (name, _)) in self.codes.iter().zip(OPCODES) {
+        for (counts, (name, _)) in self.codes.iter().zip(COMMANDS) {
             println!("  {name} by raster code {counts:?}");
         }
         for (count, (name, _)) in self.flags.iter().zip(FLAGS) {
             print!("  {name} {count}");
         }
-        println!("\n  blits by XY3 {:?}", self.directions);
+        println!();
+        for (counts, (name, _)) in self.directions.iter().zip(BLITS) {
+            println!("  {name}s by XY3 {counts:?}");
+        }
+        println!("stippled blits that a budget cut, each");
+        for (count, (name, _)) in self.stipples.iter().zip(STIPPLES) {
+            println!("  {name} {count}");
+        }
     }
+}
+
+fn is_blit(command: Command) -> bool {
+    command.opcode() == opcode::BITBLT
 }
 
 fn add(counts: &mut [u64], others: &[u64]) {
