@@ -1,0 +1,93 @@
+/* What follows from a drawing. */
+#include <stdlib.h>
+
+#include "compare.h"
+
+unsigned width, height;
+
+int least(int a, int b)
+{
+    return a < b ? a : b;
+}
+
+int greatest(int a, int b)
+{
+    return a > b ? a : b;
+}
+
+bool is_empty(box b)
+{
+    return b.left > b.right || b.top > b.bottom;
+}
+
+bool holds(box b, point p)
+{
+    return b.left <= p.x && p.x <= b.right && b.top <= p.y && p.y <= b.bottom;
+}
+
+box board_box(void)
+{
+    return (box){0, 0, (int)width - 1, (int)height - 1};
+}
+
+bool is_dashed(const drawing *d)
+{
+    return d->opcode != BITBLT && !d->solid;
+}
+
+int period(const dashes *p)
+{
+    return p->length * p->scale;
+}
+
+/* the phase so many pixels later, or earlier where they are below zero */
+int phase_after(const dashes *p, int pixels)
+{
+    return ((p->phase + pixels) % period(p) + period(p)) % period(p);
+}
+
+/* n of a line of n + 1 pixels */
+int steps_of(const drawing *d)
+{
+    return greatest(abs(d->b.x - d->a.x), abs(d->b.y - d->a.y));
+}
+
+/* by how many pixels the line moves the pattern */
+int moves(const drawing *d)
+{
+    return is_dashed(d) ? steps_of(d) + !d->nlst : 0;
+}
+
+static bool overlaps(const drawing *d)
+{
+    const int x = abs(d->a.x - d->b.x), y = abs(d->a.y - d->b.y);
+    return d->source == d->destination && x < (int)d->width && y < (int)d->height;
+}
+
+/* Whether no visit reads what an earlier one wrote. The engine reads pixels as they stand at a visit, X as they stood
+ * before the copy; there the two are the same. */
+bool reads_unwritten(const drawing *d)
+{
+    if (!overlaps(d))
+        return true;
+    if (d->a.y != d->b.y)
+        return (d->direction & BOTTOM_TO_TOP) == (d->b.y > d->a.y ? BOTTOM_TO_TOP : 0);
+    return d->a.x == d->b.x || (d->direction & RIGHT_TO_LEFT) == (d->b.x > d->a.x ? RIGHT_TO_LEFT : 0);
+}
+
+bool minor_grows(const drawing *d)
+{
+    const int dx = d->b.x - d->a.x, dy = d->b.y - d->a.y;
+    return abs(dx) >= abs(dy) ? dy > 0 : dx > 0;
+}
+
+/* whether the exact line passes halfway between two pixels at one of its major coordinates */
+bool has_halfway_point(const drawing *d)
+{
+    const int64_t x = abs(d->b.x - d->a.x), y = abs(d->b.y - d->a.y);
+    const int64_t major = x >= y ? x : y, minor = x >= y ? y : x;
+    for (int64_t i = 1; i < major; i++)
+        if (2 * i * minor % (2 * major) == major)
+            return true;
+    return false;
+}

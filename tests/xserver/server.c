@@ -1,0 +1,211 @@
+/* Draws with an X server. */
+#include <X11/Xutil.h>
+#include <stdarg.h>
+#include <stdio.h>
+#include <string.h>
+
+#include "compare.h"
+
+char calls[4096];
+
+static void note(const char *format, ...)
+{
+    const size_t used = strlen(calls);
+    va_list values;
+    va_start(values, format);
+    vsnprintf(calls + used, sizeof calls - used, format, values);
+    va_end(values);
+}
+
+/* Adds the rectangle of a box that is not empty. A rectangle's sides are at most 65,535; where a clip has 65,536 it loses
+ * row or column 32,767, which no board has. */
+static void add_rectangle(box b, XRectangle *rectangles, int *count)
+{
+    if (is_empty(b))
+        return;
+    const int w = least(b.right - b.left + 1, 65535), h = least(b.bottom - b.top + 1, 65535);
+    rectangles[(*count)++] = (XRectangle){(short)b.left, (short)b.top, (unsigned short)w, (unsigned short)h};
+}
+
+/* the box without a pixel in it, as four rectangles */
+static void add_all_but(box b, point p, XRectangle *rectangles, int *count)
+{
+    add_rectangle((box){b.left, b.top, b.right, p.y - 1}, rectangles, count);
+    add_rectangle((box){b.left, p.y, p.x - 1, p.y}, rectangles, count);
+    add_rectangle((box){p.x + 1, p.y, b.right, p.y}, rectangles, count);
+    add_rectangle((box){b.left, p.y + 1, b.right, b.bottom}, rectangles, count);
+}
+
+/* A line drawn backwards has B first, and no cap style leaves out the first pixel: the clip does. */
+static void set_clip(const server *s, const drawing *d)
+{
+    const box clip = d->clipped ? d->clip : board_box();
+    const bool without_b = d->nlst && d->backwards && holds(clip, d->b);
+    XRectangle rectangles[4];
+    int count = 0;
+    if (!d->clipped && !without_b) {
+        XSetClipMask(s->display, s->gc, None);
+        note("XSetClipMask(None)\n");
+        return;
+    }
+    if (without_b)
+        add_all_but(clip, d->b, rectangles, &count);
+    else
+        add_rectangle(clip, rectangles, &count);
+    XSetClipRectangles(s->display, s->gc, 0, 0, rectangles, count, Unsorted);
+    note("XSetClipRectangles(0, 0, {");
+    for (int k = 0; k < count; k++)
+        note(" {%d, %d, %u, %u}", rectangles[k].x, rectangles[k].y, rectangles[k].width, rectangles[k].height);
+    note(" }, %d, Unsorted)\n", count);
+}
+
+static void set_gc(const server *s, const drawing *d)
+{
+    const bool not_last = d->nlst && !d->backwards;
+    XGCValues values = {.function = (int)d->code, .plane_mask = d->mask, .foreground = d->fore};
+    values.cap_style = not_last ? CapNotLast : CapButt;
+    values.line_style = LineSolid;
+    XChangeGC(s->display, s->gc, GCFunction | GCPlaneMask | GCForeground | GCCapStyle | GCLineStyle, &values);
+    note("XChangeGC(function %u, plane_mask 0x%02X, foreground 0x%02X, cap_style %s, line_style LineSolid)\n", d->code,
+         d->mask, d->fore, not_last ? "CapNotLast" : "CapButt");
+}
+
+/* the pattern's bit at pixel j of the line that X draws */
+static bool dash_bit(const drawing *d, int j)
+{
+    const int place = phase_after(&d->dashes, d->backwards ? steps_of(d) - j : j) / d->dashes.scale;
+    return d->dashes.bits >> place & 1;
+}
+
+/* The runs of equal bits in a period that begins with a run of ones, and where in it the line begins. There are none
+ * where all bits are equal. */
+static int dash_list(const drawing *d, uint8_t *runs, int *offset)
+{
+    const int whole = period(&d->dashes);
+    int first = 0, count = 0;
+    while (first < whole && (dash_bit(d, first - 1) || !dash_bit(d, first)))
+        first++;
+    if (first == whole)
+        return 0;
+    for (int j = first; j < first + whole; j++) {
+        if (dash_bit(d, j) != dash_bit(d, j - 1))
+            runs[count++] = 0;
+        runs[count - 1]++;
+    }
+    *offset = whole - first;
+    return count;
+}
+
+/* Gives the GC the dashes of a line, or the colour of equal bits; false where these draw nothing. */
+static bool set_dashes(const server *s, const drawing *d)
+{
+    XGCValues values = {.line_style = d->trnsp ? LineOnOffDash : LineDoubleDash, .background = d->back};
+    uint8_t runs[32];
+    int offset;
+    const int count = dash_list(d, runs, &offset);
+    if (count == 0) {
+        values.foreground = dash_bit(d, 0) ? d->fore : d->back;
+        XChangeGC(s->display, s->gc, GCForeground, &values);
+        note("XChangeGC(foreground 0x%02lX)\n", values.foreground);
+        return dash_bit(d, 0) || !d->trnsp;
+    }
+    XChangeGC(s->display, s->gc, GCLineStyle | GCBackground, &values);
+    XSetDashes(s->display, s->gc, offset, (const char *)runs, count);
+    note("XChangeGC(line_style %s, background 0x%02X)\nXSetDashes(%d, {", d->trnsp ? "LineOnOffDash" : "LineDoubleDash",
+         d->back, offset);
+    for (int k = 0; k < count; k++)
+        note(" %u", runs[k]);
+    note(" }, %d)\n", count);
+    return true;
+}
+
+static void x_fill(const server *s, const drawing *d)
+{
+    XFillRectangle(s->display, s->buffers[d->destination], s->gc, d->b.x, d->b.y, d->width, d->height);
+    note("XFillRectangle(pixmap %u, %d, %d, %u, %u)\n", d->destination, d->b.x, d->b.y, d->width, d->height);
+}
+
+static void x_copy(const server *s, const drawing *d)
+{
+    XCopyArea(s->display, s->buffers[d->source], s->buffers[d->destination], s->gc, d->a.x, d->a.y, d->width,
+              d->height, d->b.x, d->b.y);
+    note("XCopyArea(pixmap %u, pixmap %u, %d, %d, %u, %u, %d, %d)\n", d->source, d->destination, d->a.x, d->a.y,
+         d->width, d->height, d->b.x, d->b.y);
+}
+
+static void x_line(const server *s, const drawing *d)
+{
+    const point p = d->backwards ? d->b : d->a, q = d->backwards ? d->a : d->b;
+    if (is_dashed(d) && !set_dashes(s, d))
+        return;
+    XDrawLine(s->display, s->buffers[d->destination], s->gc, p.x, p.y, q.x, q.y);
+    note("XDrawLine(pixmap %u, %d, %d, %d, %d)\n", d->destination, p.x, p.y, q.x, q.y);
+}
+
+static void put(const server *s, unsigned k)
+{
+    const int screen = DefaultScreen(s->display);
+    XImage *image = XCreateImage(s->display, DefaultVisual(s->display, screen), 8, ZPixmap, 0, (char *)start[k], width,
+                                 height, 8, (int)width);
+    if (!image)
+        fail("XCreateImage gives no image");
+    XPutImage(s->display, s->buffers[k], DefaultGC(s->display, screen), image, 0, 0, 0, 0, width, height);
+    image->data = NULL;
+    XDestroyImage(image);
+}
+
+static void x_one(const server *s, const drawing *d)
+{
+    set_gc(s, d);
+    set_clip(s, d);
+    if (d->opcode != BITBLT)
+        x_line(s, d);
+    else if (d->solid)
+        x_fill(s, d);
+    else
+        x_copy(s, d);
+}
+
+void x_draw(const server *s, const drawing *d)
+{
+    calls[0] = 0;
+    for (unsigned k = 0; k < 2; k++)
+        put(s, k);
+    if (d->before)
+        x_one(s, d->before);
+    x_one(s, d);
+}
+
+void set_board(server *servers, unsigned w, unsigned h)
+{
+    width = w;
+    height = h;
+    for (unsigned s = 0; s < 2; s++)
+        for (unsigned k = 0; k < 2; k++) {
+            Display *display = servers[s].display;
+            if (servers[s].buffers[k])
+                XFreePixmap(display, servers[s].buffers[k]);
+            servers[s].buffers[k] = XCreatePixmap(display, DefaultRootWindow(display), w, h, 8);
+        }
+}
+
+server open_server(const char *name, bool biased)
+{
+    server s = {.display = XOpenDisplay(name), .biased = biased};
+    if (!s.display)
+        fail("no X server answers");
+    const int screen = DefaultScreen(s.display);
+    if (DefaultDepth(s.display, screen) != 8 || DefaultVisual(s.display, screen)->class != PseudoColor)
+        fail("the screen is not 8-bit PseudoColor");
+    XGCValues values = {.line_width = 0, .graphics_exposures = False};
+    s.gc = XCreateGC(s.display, DefaultRootWindow(s.display), GCLineWidth | GCGraphicsExposures, &values);
+    return s;
+}
+
+void close_server(const server *s)
+{
+    for (unsigned k = 0; k < 2; k++)
+        XFreePixmap(s->display, s->buffers[k]);
+    XFreeGC(s->display, s->gc);
+    XCloseDisplay(s->display);
+}
