@@ -13,6 +13,10 @@
  *
  * The rule for dashes. Both move the pattern by one at every pixel of a line, hidden ones too. A line drawn from B to A
  * gets its pattern reversed: pixel j from B is pixel n - j from A.
+ *
+ * The rule for bits. X has the bits of a source buffer in a bitmap, eight columns a byte, the most significant first. As
+ * the source of XCopyPlane it draws both colours, and nothing where the source lies outside it. As a clip mask it draws
+ * the ones alone, and nothing outside. As a stipple it draws either way, but X repeats it and nothing is outside.
  */
 #include <X11/Xutil.h>
 #include <stdio.h>
@@ -84,7 +88,8 @@ static void report(const difference *found)
         const uint8_t *e = list + 5 * k;
         printf("%02X %02X %02X %02X %02X\n", e[0], e[1], e[2], e[3], e[4]);
     }
-    printf("X calls, with a GC of line_width 0 and graphics_exposures False:\n%s\n", calls);
+    printf("X calls, with a GC of line_width 0 and graphics_exposures False, bits being a bitmap of the bytes that the "
+           "pixmap began with:\n%s\n", calls);
 }
 
 void count_test(bool passes)
@@ -100,6 +105,13 @@ static kind kinds[] = {
     {.name = "BITBLT between buffers, XCopyArea", .make = copy_between},
     {.name = "BITBLT in one buffer, XCopyArea", .make = copy_within},
     {.name = "BITBLT over its source, XCopyArea", .make = copy_overlapping},
+    {.name = "BITBLT STPL SOLID, XFillRectangle", .make = fill_stippled},
+    {.name = "BITBLT STPL, XCopyPlane", .make = stipple_between},
+    {.name = "BITBLT STPL, one buffer, both styles", .make = stipple_within},
+    {.name = "BITBLT STPL, FillOpaqueStippled", .make = stipple_opaque},
+    {.name = "BITBLT STPL TRNSP, FillStippled", .make = stipple_transparent},
+    {.name = "BITBLT STPL TRNSP, clip mask", .make = stipple_through},
+    {.name = "BITBLT STPL, glyphs, both styles", .make = glyph},
     {.name = "LINE SOLID, XDrawLine", .make = line},
     {.name = "LINE SOLID NLST, XDrawLine", .make = line_not_last},
     {.name = "PLINE SOLID, XDrawLine", .make = polyline},

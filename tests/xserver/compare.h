@@ -12,6 +12,13 @@ enum { BITBLT = 1, LINE = 2, PLINE = 5 };
 enum { BOTTOM_TO_TOP = 1, RIGHT_TO_LEFT = 2 };
 enum { NO_CLIP, INSIDE, PARTLY_OFF, WHOLLY_OFF, REVERSED, FAR };
 
+/* how X draws a blit of bits: XCopyPlane, XFillRectangle with the bits as stipple, or with the bits as clip mask */
+enum { COPY_PLANE, FILL_STIPPLED, FILL_THROUGH };
+
+/* what X takes the bits for: what they are, those of each byte from the other end, only as many as the buffer has
+ * columns, or with zeros around them */
+enum { RIGHT_BITS, LEAST_FIRST, NARROW, ZEROS_AROUND };
+
 #define SOLID (1u << 23)
 #define TRNSP (1u << 22)
 #define STPL (1u << 21)
@@ -39,11 +46,13 @@ typedef struct dashes {
 typedef struct drawing {
     unsigned opcode, code, mask, fore, back;
     bool solid, trnsp, nlst, clipped;
+    bool stpl; /* of a blit, for which x of a is then a bit's; a line has STPL where it has no SOLID */
     unsigned unread; /* more bits of CMD, which tell X nothing */
     unsigned source, destination; /* 0 display, 1 virtual */
     box clip;
     point a, b; /* ends of a line; upper left corners of source and destination of a blit */
     unsigned width, height, direction;
+    unsigned means, reading; /* in X, of a blit of bits */
     bool backwards; /* X draws the line from B to A */
     dashes dashes; /* of a line without SOLID */
     struct drawing *before; /* the line before it in the same list, from whose end the pattern goes on, or NULL */
@@ -52,7 +61,7 @@ typedef struct drawing {
 typedef struct server {
     Display *display;
     bool biased;
-    GC gc;
+    GC gc, bitmap_gc; /* for pixmaps of depth 8 and, with foreground 0, of depth 1 */
     Pixmap buffers[2];
 } server;
 
@@ -81,7 +90,11 @@ int greatest(int a, int b);
 bool is_empty(box b);
 bool holds(box b, point p);
 box board_box(void);
+box bitmap_box(void);
+box common(box a, box b);
+box rectangle(const drawing *d, point corner);
 bool is_dashed(const drawing *d);
+bool bits_inside(const drawing *d);
 int period(const dashes *p);
 int phase_after(const dashes *p, int pixels);
 int steps_of(const drawing *d);
@@ -101,6 +114,13 @@ void fill(drawing *d);
 void copy_between(drawing *d);
 void copy_within(drawing *d);
 void copy_overlapping(drawing *d);
+void fill_stippled(drawing *d);
+void stipple_between(drawing *d);
+void stipple_within(drawing *d);
+void stipple_opaque(drawing *d);
+void stipple_transparent(drawing *d);
+void stipple_through(drawing *d);
+void glyph(drawing *d);
 void line(drawing *d);
 void line_not_last(drawing *d);
 void polyline(drawing *d);

@@ -106,21 +106,26 @@ static void random_size(drawing *d)
     d->height = (unsigned)h;
 }
 
-/* an upper left corner from which the rectangle mostly meets the board */
-static point random_corner(const drawing *d)
+/* an upper left corner from which the rectangle mostly meets the buffer, or the bits of it */
+static point random_corner(const drawing *d, box buffer)
 {
     if (one_in(32))
         return (point){between(-30000, 30000), between(-30000, 30000)};
-    return (point){between(-(int)d->width - 1, (int)width + 1), between(-(int)d->height - 1, (int)height + 1)};
+    return (point){between(-(int)d->width - 1, buffer.right + 2), between(-(int)d->height - 1, buffer.bottom + 2)};
+}
+
+static void random_places(drawing *d)
+{
+    d->a = random_corner(d, d->stpl ? bitmap_box() : board_box());
+    d->b = random_corner(d, board_box());
+    d->direction = (unsigned)between(0, 3);
 }
 
 static void random_blit(drawing *d)
 {
     d->opcode = BITBLT;
     random_size(d);
-    d->a = random_corner(d);
-    d->b = random_corner(d);
-    d->direction = (unsigned)between(0, 3);
+    random_places(d);
 }
 
 void fill(drawing *d)
@@ -159,6 +164,75 @@ void copy_overlapping(drawing *d)
     const int x = least((int)d->width - 1, 8), y = least((int)d->height - 1, 8);
     d->b = (point){d->a.x + between(-x, x), d->a.y + between(-y, y)};
     safe_direction(d);
+}
+
+void fill_stippled(drawing *d)
+{
+    d->stpl = true;
+    fill(d);
+}
+
+void stipple_between(drawing *d)
+{
+    d->stpl = true;
+    copy_between(d);
+}
+
+static void stipple_either(drawing *d)
+{
+    d->trnsp = one_in(2);
+    if (d->trnsp)
+        d->means = bits_inside(d) ? FILL_STIPPLED : FILL_THROUGH;
+}
+
+/* bits of the buffer that is drawn to, half of them near the pixels drawn */
+void stipple_within(drawing *d)
+{
+    d->stpl = true;
+    do {
+        random_blit(d);
+        d->source = d->destination;
+        if (one_in(2))
+            d->b = (point){d->a.x / 8 + between(-8, 8), d->a.y + between(-8, 8)};
+    } while (!reads_unwritten(d));
+    stipple_either(d);
+}
+
+/* bits inside the buffer, as X repeats a stipple */
+void stipple_opaque(drawing *d)
+{
+    stipple_between(d);
+    d->width = (unsigned)least((int)d->width, 8 * (int)width);
+    d->height = (unsigned)least((int)d->height, (int)height);
+    d->a = (point){between(0, 8 * (int)width - (int)d->width), between(0, (int)height - (int)d->height)};
+    d->means = FILL_STIPPLED;
+}
+
+void stipple_transparent(drawing *d)
+{
+    stipple_opaque(d);
+    d->trnsp = true;
+}
+
+void stipple_through(drawing *d)
+{
+    stipple_between(d);
+    d->trnsp = true;
+    d->means = FILL_THROUGH;
+}
+
+/* a glyph one or two bytes wide, which mostly begins with a byte */
+void glyph(drawing *d)
+{
+    d->opcode = BITBLT;
+    d->stpl = true;
+    d->source = 1 - d->destination;
+    d->width = one_in(2) ? 8 : 16;
+    d->height = 16;
+    random_places(d);
+    if (!one_in(4))
+        d->a.x = d->a.x / 8 * 8;
+    stipple_either(d);
 }
 
 static point random_end(void)

@@ -65,9 +65,11 @@ static void set_gc(const server *s, const drawing *d)
     XGCValues values = {.function = (int)d->code, .plane_mask = d->mask, .foreground = d->fore};
     values.cap_style = not_last ? CapNotLast : CapButt;
     values.line_style = LineSolid;
-    XChangeGC(s->display, s->gc, GCFunction | GCPlaneMask | GCForeground | GCCapStyle | GCLineStyle, &values);
-    note("XChangeGC(function %u, plane_mask 0x%02X, foreground 0x%02X, cap_style %s, line_style LineSolid)\n", d->code,
-         d->mask, d->fore, not_last ? "CapNotLast" : "CapButt");
+    values.fill_style = FillSolid;
+    XChangeGC(s->display, s->gc, GCFunction | GCPlaneMask | GCForeground | GCCapStyle | GCLineStyle | GCFillStyle,
+              &values);
+    note("XChangeGC(function %u, plane_mask 0x%02X, foreground 0x%02X, cap_style %s, line_style LineSolid, fill_style "
+         "FillSolid)\n", d->code, d->mask, d->fore, not_last ? "CapNotLast" : "CapButt");
 }
 
 /* the pattern's bit at pixel j of the line that X draws */
@@ -142,16 +144,106 @@ static void x_line(const server *s, const drawing *d)
     note("XDrawLine(pixmap %u, %d, %d, %d, %d)\n", d->destination, p.x, p.y, q.x, q.y);
 }
 
-static void put(const server *s, unsigned k)
+/* the bytes of a buffer as an image of one pixel or eight a byte */
+static XImage *image_of(const server *s, unsigned k, unsigned depth)
 {
-    const int screen = DefaultScreen(s->display);
-    XImage *image = XCreateImage(s->display, DefaultVisual(s->display, screen), 8, ZPixmap, 0, (char *)start[k], width,
-                                 height, 8, (int)width);
+    XImage *image = XCreateImage(s->display, DefaultVisual(s->display, DefaultScreen(s->display)), depth,
+                                 depth == 1 ? XYPixmap : ZPixmap, 0, (char *)start[k], width * 8 / depth, height, 8,
+                                 (int)width);
     if (!image)
         fail("XCreateImage gives no image");
-    XPutImage(s->display, s->buffers[k], DefaultGC(s->display, screen), image, 0, 0, 0, 0, width, height);
+    return image;
+}
+
+static void destroy_image(XImage *image)
+{
     image->data = NULL;
     XDestroyImage(image);
+}
+
+static void put(const server *s, unsigned k)
+{
+    XImage *image = image_of(s, k, 8);
+    XPutImage(s->display, s->buffers[k], DefaultGC(s->display, DefaultScreen(s->display)), image, 0, 0, 0, 0, width,
+              height);
+    destroy_image(image);
+}
+
+static int margin(const drawing *d)
+{
+    return d->reading == ZEROS_AROUND ? 64 : 0;
+}
+
+/* A bitmap of the source buffer's bits. The most significant bit of a byte is its leftmost pixel, and the image says so:
+ * where the server has bits the other way round, as Xvfb does, XPutImage turns them. It is made anew for each drawing,
+ * since a change of a bitmap that a GC has as stipple may or may not be seen. */
+static Pixmap make_bitmap(const server *s, const drawing *d)
+{
+    const unsigned columns = d->reading == NARROW ? width : 8 * width, margins = 2 * (unsigned)margin(d);
+    const unsigned w = columns + margins, h = height + margins;
+    const Pixmap bitmap = XCreatePixmap(s->display, DefaultRootWindow(s->display), w, h, 1);
+    XImage *image = image_of(s, d->source, 1);
+    image->bitmap_unit = 8;
+    image->byte_order = image->bitmap_bit_order = d->reading == LEAST_FIRST ? LSBFirst : MSBFirst;
+    XFillRectangle(s->display, bitmap, s->bitmap_gc, 0, 0, w, h);
+    XPutImage(s->display, bitmap, s->bitmap_gc, image, 0, 0, margin(d), margin(d), columns, height);
+    destroy_image(image);
+    return bitmap;
+}
+
+static void x_copy_plane(const server *s, const drawing *d, Pixmap bitmap)
+{
+    const int x = d->a.x + margin(d), y = d->a.y + margin(d);
+    XSetBackground(s->display, s->gc, d->back);
+    XCopyPlane(s->display, bitmap, s->buffers[d->destination], s->gc, x, y, d->width, d->height, d->b.x, d->b.y, 1);
+    note("XSetBackground(0x%02X)\nXCopyPlane(bits of pixmap %u, pixmap %u, %d, %d, %u, %u, %d, %d, 1)\n", d->back,
+         d->source, d->destination, x, y, d->width, d->height, d->b.x, d->b.y);
+}
+
+/* The origin lays the bit at A over the pixel at B. It may be whole stipples away from that, as 16 bits must hold it. */
+static void x_fill_stippled(const server *s, const drawing *d, Pixmap bitmap)
+{
+    const int x = (d->b.x - d->a.x) % (8 * (int)width), y = (d->b.y - d->a.y) % (int)height;
+    XGCValues values = {.fill_style = d->trnsp ? FillStippled : FillOpaqueStippled, .background = d->back};
+    values.stipple = bitmap;
+    values.ts_x_origin = x;
+    values.ts_y_origin = y;
+    XChangeGC(s->display, s->gc, GCFillStyle | GCBackground | GCStipple | GCTileStipXOrigin | GCTileStipYOrigin,
+              &values);
+    note("XChangeGC(fill_style %s, background 0x%02X, stipple bits of pixmap %u, ts_x_origin %d, ts_y_origin %d)\n",
+         d->trnsp ? "FillStippled" : "FillOpaqueStippled", d->back, d->source, x, y);
+    x_fill(s, d);
+}
+
+/* The bits take the clip's place, so of the rectangle the part in the clip is filled. It is cut to the board too, where
+ * 16 bits hold the origin. */
+static void x_fill_through(const server *s, const drawing *d, Pixmap bitmap)
+{
+    const box seen = d->clipped ? common(board_box(), d->clip) : board_box();
+    const box part = common(seen, rectangle(d, d->b));
+    const int x = d->b.x - d->a.x, y = d->b.y - d->a.y;
+    drawing e = *d;
+    if (is_empty(part))
+        return;
+    XSetClipMask(s->display, s->gc, bitmap);
+    XSetClipOrigin(s->display, s->gc, x, y);
+    note("XSetClipMask(bits of pixmap %u)\nXSetClipOrigin(%d, %d)\n", d->source, x, y);
+    e.b = (point){part.left, part.top};
+    e.width = (unsigned)(part.right - part.left + 1);
+    e.height = (unsigned)(part.bottom - part.top + 1);
+    x_fill(s, &e);
+}
+
+static void x_stippled(const server *s, const drawing *d)
+{
+    const Pixmap bitmap = make_bitmap(s, d);
+    if (d->means == COPY_PLANE)
+        x_copy_plane(s, d, bitmap);
+    else if (d->means == FILL_STIPPLED)
+        x_fill_stippled(s, d, bitmap);
+    else
+        x_fill_through(s, d, bitmap);
+    XFreePixmap(s->display, bitmap);
 }
 
 static void x_one(const server *s, const drawing *d)
@@ -162,6 +254,8 @@ static void x_one(const server *s, const drawing *d)
         x_line(s, d);
     else if (d->solid)
         x_fill(s, d);
+    else if (d->stpl)
+        x_stippled(s, d);
     else
         x_copy(s, d);
 }
@@ -199,6 +293,9 @@ server open_server(const char *name, bool biased)
         fail("the screen is not 8-bit PseudoColor");
     XGCValues values = {.line_width = 0, .graphics_exposures = False};
     s.gc = XCreateGC(s.display, DefaultRootWindow(s.display), GCLineWidth | GCGraphicsExposures, &values);
+    const Pixmap bitmap = XCreatePixmap(s.display, DefaultRootWindow(s.display), 1, 1, 1);
+    s.bitmap_gc = XCreateGC(s.display, bitmap, 0, NULL);
+    XFreePixmap(s.display, bitmap);
     return s;
 }
 
@@ -207,5 +304,6 @@ void close_server(const server *s)
     for (unsigned k = 0; k < 2; k++)
         XFreePixmap(s->display, s->buffers[k]);
     XFreeGC(s->display, s->gc);
+    XFreeGC(s->display, s->bitmap_gc);
     XCloseDisplay(s->display);
 }

@@ -46,13 +46,13 @@ static drawing sample(const kind *k)
     d.fore = 0x55;
     d.back = 0xAA;
     d.nlst = k->make == line_not_last;
-    d.source = k->make == copy_between;
+    d.source = k->make == copy_between || (d.stpl && k->make != stipple_within);
     d.destination = 0;
     d.clip = (box){10, 10, 30, 30};
     d.width = d.height = 31;
     d.direction = 0;
     d.b = (point){1, 1};
-    d.a = k->make == copy_overlapping ? (point){4, 3} : (point){32, 1};
+    d.a = k->make == copy_overlapping ? (point){4, 3} : d.stpl ? (point){8 * 32 + 5, 1} : (point){32, 1};
     if (d.opcode != BITBLT) {
         d.a = (point){0, 0};
         d.b = (point){46, 46};
@@ -99,12 +99,13 @@ static void wrong_clips(const server *s, tally *t, drawing d)
     must_differ(s, t, &d, &e);
 }
 
-/* one off in a coordinate or an extent, the other buffer, another foreground, one pixel more or less at B */
+/* one off in a coordinate or an extent, the other buffer, another foreground or background, one pixel more or less at
+ * B */
 static void wrong_places(const server *s, tally *t, const drawing *d)
 {
-    drawing wrongs[8];
+    drawing wrongs[9];
     unsigned count = 0;
-    for (unsigned k = 0; k < 8; k++)
+    for (unsigned k = 0; k < 9; k++)
         wrongs[k] = *d;
     wrongs[count++].b.x++;
     wrongs[count++].b.y++;
@@ -114,8 +115,10 @@ static void wrong_places(const server *s, tally *t, const drawing *d)
         wrongs[count++].height--;
     } else
         wrongs[count++].nlst ^= true;
-    if (d->solid || d->opcode != BITBLT)
+    if (d->solid || d->stpl || d->opcode != BITBLT)
         wrongs[count++].fore ^= 1;
+    if (d->stpl && !d->solid && !d->trnsp)
+        wrongs[count++].back ^= 1;
     if (!d->solid || d->opcode != BITBLT) {
         wrongs[count++].a.x++;
         wrongs[count++].a.y++;
@@ -166,9 +169,15 @@ static void wrong_kind(const server *s, const kind *k, tally *t)
 }
 
 /* copies over their source in the directions that read what was written */
-static void wrong_directions(const server *s, tally *t)
+static void wrong_directions(const server *s, tally *t, bool stpl)
 {
     drawing d = {.opcode = BITBLT, .code = GXcopy, .mask = 0xFF, .a = {10, 10}, .width = 20, .height = 20};
+    if (stpl) {
+        d.stpl = true;
+        d.fore = 0x55;
+        d.back = 0xAA;
+        d.a.x = 8 * 10;
+    }
     for (int x = -3; x <= 3; x++)
         for (int y = -3; y <= 3; y++)
             for (d.direction = 0; d.direction < 4; d.direction++) {
@@ -224,9 +233,80 @@ static void hidden_dashes(const server *s, tally *parts, tally *whole)
     }
 }
 
+/* A small blit to inside the board, of bits that lie in the buffer and have x no less than the board's width. Every pixel
+ * that FORE or BACK draws changes. */
+static drawing small_stipple(void)
+{
+    drawing d = {.opcode = BITBLT, .stpl = true, .code = GXxor, .mask = 0xFF, .fore = 0x55, .back = 0xAA, .source = 1};
+    const int w = between(8, 24), h = between(8, 24);
+    d.a = (point){between((int)width, 8 * (int)width - w), between(0, (int)height - h)};
+    d.b = (point){between(0, (int)width - w), between(0, (int)height - h)};
+    d.width = (unsigned)w;
+    d.height = (unsigned)h;
+    d.direction = (unsigned)between(0, 3);
+    return d;
+}
+
+/* the bits of a byte from its other end, only as many as the buffer has columns, a 0 taken for the other of BACK and
+ * nothing, and bits for SOLID */
+static void misread_bits(const server *s, tally *t)
+{
+    for (unsigned k = 0; k < 500; k++) {
+        const drawing d = small_stipple();
+        drawing least_first = d, narrow = d, trnsp = d, solid = d;
+        least_first.reading = LEAST_FIRST;
+        narrow.reading = NARROW;
+        trnsp.trnsp = true;
+        trnsp.means = FILL_STIPPLED;
+        solid.solid = true;
+        must_differ(s, &t[0], &d, &least_first);
+        must_differ(s, &t[1], &d, &narrow);
+        must_differ(s, &t[2], &d, &trnsp);
+        must_differ(s, &t[3], &trnsp, &d);
+        must_differ(s, &t[4], &solid, &d);
+    }
+}
+
+/* Bits at the sides of the buffer, those outside taken for zeros, and for the bits of the buffer once more: they agree
+ * only where none is outside. */
+static void misread_outside(const server *s, tally *zeros, tally *again, tally *inside)
+{
+    for (unsigned k = 0; k < 1000; k++) {
+        drawing d = small_stipple();
+        d.a.x = one_in(2) ? between(-24, 24) : 8 * (int)width - between(0, 48);
+        d.a.y = between(-24, (int)height);
+        drawing e = d, f = d;
+        e.reading = ZEROS_AROUND;
+        f.means = FILL_STIPPLED;
+        const bool same = bits_inside(&d);
+        expect(same ? inside : zeros, (compare(s, &d, &e).pixels == 0) == same);
+        expect(same ? inside : again, (compare(s, &d, &f).pixels == 0) == same);
+    }
+}
+
 static void print_tally(const tally *t)
 {
     printf("%-57s %8lu %8lu\n", t->name, t->cases, t->met);
+}
+
+static void compare_misread(const server *s)
+{
+    tally t[] = {
+        {"BITBLT STPL, least significant bit first: differs", 0, 0},
+        {"BITBLT STPL, as many bits as columns: differs", 0, 0},
+        {"BITBLT STPL, a 0 draws nothing: differs", 0, 0},
+        {"BITBLT STPL TRNSP, a 0 draws BACK: differs", 0, 0},
+        {"BITBLT STPL SOLID, bits are read: differs", 0, 0},
+        {"BITBLT STPL, a bit outside draws BACK: differs", 0, 0},
+        {"BITBLT STPL, bits outside come round again: differs", 0, 0},
+        {"BITBLT STPL, both where none is outside: agrees", 0, 0},
+        {"BITBLT STPL over its source, the other direction: differs", 0, 0},
+    };
+    misread_bits(s, t);
+    misread_outside(s, &t[5], &t[6], &t[7]);
+    wrong_directions(s, &t[8], true);
+    for (unsigned k = 0; k < sizeof t / sizeof t[0]; k++)
+        print_tally(&t[k]);
 }
 
 void compare_wrong(server *servers, const kind *kinds, unsigned count)
@@ -234,8 +314,8 @@ void compare_wrong(server *servers, const kind *kinds, unsigned count)
     tally direction = {"BITBLT over its source, the other direction: differs", 0, 0};
     tally halfway = {"LINE with a halfway point, the other way: differs", 0, 0};
     tally others = {"LINE without a halfway point, the other way: agrees", 0, 0};
-    tally parts = {"STPL, pattern not moved by hidden pixels: differs", 0, 0};
-    tally whole = {"STPL, the same where they are whole periods: agrees", 0, 0};
+    tally parts = {"LINE STPL, pattern not moved by hidden pixels: differs", 0, 0};
+    tally whole = {"LINE STPL, the same where they are whole periods: agrees", 0, 0};
     set_board(servers, 64, 48);
     printf("\n%-57s %8s %8s\n", "expectation", "cases", "met");
     for (unsigned k = 0; k < count; k++) {
@@ -245,10 +325,11 @@ void compare_wrong(server *servers, const kind *kinds, unsigned count)
         wrong_kind(&servers[kinds[k].biased], &kinds[k], &t);
         print_tally(&t);
     }
-    wrong_directions(&servers[0], &direction);
+    wrong_directions(&servers[0], &direction, false);
     wrong_ways(&servers[0], &halfway, &others);
     hidden_dashes(&servers[0], &parts, &whole);
     print_tally(&direction);
+    compare_misread(&servers[0]);
     print_tally(&halfway);
     print_tally(&others);
     print_tally(&parts);
