@@ -1,27 +1,42 @@
-/* A ship's call on a berth board, and the call cancelled: a bar struck through its line. It shows all that there is to using
- * the library: make a board, own its three memories, store a display list into list memory, post it, and run it.
+/* A ship's call on a berth board, written in a font of one bit a pixel, and the call cancelled: a bar struck through its
+ * lines. It shows all that there is to using the library: make a board, own its three memories, write a font into the
+ * virtual buffer, store a display list into list memory, post it, and run it.
  *
  *     cc -Iinclude examples/c/cancelled_call.c target/staticlib/libpramolyt.a -o target/cancelled_call
  */
+#include <assert.h>
 #include <inttypes.h>
 #include <stdio.h>
+#include <stdlib.h>
+#include <string.h>
 
 #include "pramolyt.h"
 
-enum { WIDTH = 34, HEIGHT = 9, ENTRIES = 64 };
+enum { WIDTH = 75, HEIGHT = 18, ENTRIES = 64 };
 
 /* The registers that the lists write, by their numbers. */
-enum { CMD = 0, FORE = 1, XY0 = 9, XY2 = 10, XY1 = 12 };
+enum { CMD = 0, FORE = 1, BACK = 2, XY0 = 9, XY2 = 10, XY1 = 12 };
 
-/* What CMD can hold, among others: an opcode, raster code 3 (copy), and the flag SOLID, which draws with FORE. */
-static const uint32_t FILL = 0x13800000;
-static const uint32_t LINE = 0x23800000;
+/* What CMD can hold, among others: an opcode, a raster code, flags and the source. TEXT is BITBLT, code 3 (copy), with STPL,
+ * by which a 1 of the source's bits draws FORE and a 0 BACK, from the virtual buffer. BAR is LINE, code 6 (exclusive or),
+ * with SOLID, which draws with FORE. */
+static const uint32_t TEXT = 0x13210000;
+static const uint32_t BAR = 0x26800000;
 
-/* The strokes of the ship's name, from (x, y) to (x, y). */
-static const int16_t strokes[10][4] = {
-    {8, 7, 8, 1},    {8, 1, 12, 7},   {12, 7, 12, 1}, {15, 1, 15, 7}, {18, 7, 18, 1},
-    {18, 1, 22, 7},  {22, 7, 22, 1},  {25, 7, 27, 1}, {27, 1, 29, 7}, {26, 5, 28, 5},
-};
+/* The font, a character a pixel, its letters in bands of 13. */
+enum { CELL_WIDTH = 6, CELL_HEIGHT = 8, BAND_WIDTH = 13 * CELL_WIDTH };
+static const char letters[] = "ABCDEFGHIJKLMNOPQRSTUVWXYZ0123456789-:.";
+static const char font[] =
+#include "../font.inc"
+    ;
+_Static_assert(sizeof font - 1 == 3 * BAND_WIDTH * CELL_HEIGHT, "three bands");
+
+/* The lines of the call, and the upper edge of each on the board. */
+static const struct {
+    const char *text;
+    int16_t top;
+} lines[] = {{"FAIRWIND", 1}, {"WALL 3 05:10", 10}};
+enum { LINES = sizeof lines / sizeof lines[0] };
 
 /* A display list while it is built. */
 typedef struct {
@@ -32,6 +47,7 @@ typedef struct {
 /* An entry: five bytes that write data into a register. */
 static void entry(display_list *list, unsigned reg, uint32_t data)
 {
+    assert(list->count < ENTRIES);
     uint8_t *bytes = list->bytes + 5 * list->count++;
     bytes[0] = (uint8_t)(reg << 3);
     for (int k = 1; k <= 4; k++)
@@ -44,44 +60,48 @@ static uint32_t pair(int16_t x, int16_t y)
     return (uint32_t)(uint16_t)x << 16 | (uint16_t)y;
 }
 
-/* A filled rectangle. Writing XY1, the corner, draws it. */
-static void fill(display_list *list, uint32_t colour, uint32_t corner, uint32_t size)
+/* The bit position of a letter's cell in the virtual buffer. A letter that the font lacks, as the space, has the blank cell
+ * after the last. */
+static uint32_t glyph(char letter)
 {
-    entry(list, FORE, colour);
-    entry(list, CMD, FILL);
-    entry(list, XY2, size);
-    entry(list, XY1, corner);
+    size_t k = strcspn(letters, (const char[]){letter, '\0'});
+    return pair((int16_t)(CELL_WIDTH * k), 0);
 }
 
-/* The berth's mark and the ship's name, in colour 1. */
+/* A line of text, a blit a letter. Writing XY1, the cell's corner on the board, draws it. */
+static void text_line(display_list *list, const char *text, int16_t x, int16_t y)
+{
+    for (; *text != '\0'; text++) {
+        entry(list, XY0, glyph(*text));
+        entry(list, XY1, pair(x, y));
+        x += CELL_WIDTH;
+    }
+}
+
+/* The lines of the call, in colour 1 on colour 0. */
 static display_list call(void)
 {
     display_list list = {0};
-    fill(&list, 1, pair(1, 1), pair(4, 7));
-    entry(&list, CMD, LINE);
-    for (size_t k = 0; k < sizeof strokes / sizeof strokes[0]; k++) {
-        entry(&list, XY0, pair(strokes[k][0], strokes[k][1]));
-        entry(&list, XY1, pair(strokes[k][2], strokes[k][3]));
-    }
+    entry(&list, FORE, 1);
+    entry(&list, BACK, 0);
+    entry(&list, CMD, TEXT);
+    entry(&list, XY2, pair(CELL_WIDTH, CELL_HEIGHT));
+    for (int k = 0; k < LINES; k++)
+        text_line(&list, lines[k].text, 2, lines[k].top);
     return list;
 }
 
-/* A bar over the whole line, in colour 2. */
+/* A bar through each line. It inverts bit 1 of its pixels: colour 0 becomes 2, and the text, 1, becomes 3. */
 static display_list bar(void)
 {
     display_list list = {0};
-    fill(&list, 2, pair(0, 4), pair(WIDTH, 1));
-    return list;
-}
-
-static void print(const uint8_t *display)
-{
-    for (int y = 0; y < HEIGHT; y++) {
-        putchar('|');
-        for (int x = 0; x < WIDTH; x++)
-            putchar(" #="[display[y * WIDTH + x]]);
-        puts("|");
+    entry(&list, FORE, 2);
+    entry(&list, CMD, BAR);
+    for (int k = 0; k < LINES; k++) {
+        entry(&list, XY0, pair(0, lines[k].top + 3));
+        entry(&list, XY1, pair(WIDTH - 1, lines[k].top + 3));
     }
+    return list;
 }
 
 static pramolyt_board board;
@@ -89,27 +109,62 @@ static uint8_t memory[5 * ENTRIES];
 static uint8_t display[WIDTH * HEIGHT];
 static uint8_t virt[WIDTH * HEIGHT];
 
-/* Stores, posts and runs a list; the run's answer. */
-static uint32_t draw(const char *name, const display_list *list)
+/* Ends the program where a call is refused. */
+static void check(const char *name, uint32_t answer)
+{
+    if (answer != PRAMOLYT_DONE) {
+        fprintf(stderr, "%s answers %" PRIu32 "\n", name, answer);
+        exit(1);
+    }
+}
+
+/* Writes the font into the virtual buffer, its bands side by side, eight pixels a byte, the leftmost in the most significant
+ * bit. */
+static void write_font(void)
+{
+    uint8_t bits[WIDTH * CELL_HEIGHT] = {0};
+    for (size_t k = 0; k < sizeof font - 1; k++) {
+        size_t row = k / BAND_WIDTH;
+        size_t x = row / CELL_HEIGHT * BAND_WIDTH + k % BAND_WIDTH;
+        if (font[k] == '#')
+            bits[row % CELL_HEIGHT * WIDTH + x / 8] |= (uint8_t)(0x80 >> x % 8);
+    }
+    check("window write", pramolyt_window_write(&board, 1, 0, bits, sizeof bits, virt, sizeof virt));
+}
+
+/* Stores, posts and runs a list. */
+static void draw(const char *name, const display_list *list)
 {
     uint64_t place, steps;
-    uint32_t stored = pramolyt_store(&board, memory, sizeof memory, 0, list->bytes, 5 * list->count);
-    uint32_t posted = pramolyt_post(&board, &place, memory, sizeof memory, 0, list->count);
-    uint32_t ran = pramolyt_run(&board, &steps, 1000, memory, sizeof memory, display, sizeof display, virt, sizeof virt);
-    printf("%s: %zu entries\n", name, list->count);
-    printf("store answers %" PRIu32 ", post %" PRIu32 ", run %" PRIu32 "\n", stored, posted, ran);
-    printf("%" PRIu64 " steps\n", steps);
-    print(display);
-    return ran;
+    check("store", pramolyt_store(&board, memory, sizeof memory, 0, list->bytes, 5 * list->count));
+    check("post", pramolyt_post(&board, &place, memory, sizeof memory, 0, list->count));
+    check("run", pramolyt_run(&board, &steps, 10000, memory, sizeof memory, display, sizeof display, virt, sizeof virt));
+    printf("%s: %zu entries, %" PRIu64 " steps\n", name, list->count, steps);
+}
+
+static void print(void)
+{
+    for (int y = 0; y < HEIGHT; y++) {
+        putchar('|');
+        for (int x = 0; x < WIDTH; x++)
+            putchar(" #=%"[display[y * WIDTH + x]]);
+        puts("|");
+    }
 }
 
 int main(void)
 {
-    if (pramolyt_make(&board, WIDTH, HEIGHT, ENTRIES) != PRAMOLYT_DONE)
-        return 1;
     display_list first = call(), second = bar();
-    if (draw("the call", &first) != PRAMOLYT_DONE || draw("the bar", &second) != PRAMOLYT_DONE)
-        return 1;
-    puts(board.active_taken ? "paused" : "idle");
-    return 0;
+    uint8_t before[sizeof display];
+    check("make", pramolyt_make(&board, WIDTH, HEIGHT, ENTRIES));
+    write_font();
+    draw("the call", &first);
+    print();
+    memcpy(before, display, sizeof display);
+    draw("the bar", &second);
+    print();
+    draw("the bar again", &second);
+    int same = memcmp(before, display, sizeof display) == 0;
+    puts(same ? "the call stands as before" : "the call is not as before");
+    return same ? 0 : 1;
 }
