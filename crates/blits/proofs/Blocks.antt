@@ -3,11 +3,13 @@
 use mathlib.Core.Path.{_≡_, refl, ap, ap₂, sym, subst, _∙_}
 use mathlib.Core.Bool.{Bool, true, false, cond}
 use mathlib.Core.List.{List}
-use mathlib.Core.Logic.{⊎-elim}
+use mathlib.Core.Logic.{_⊎_, inl, inr, ⊎-elim}
 use Prim.Native.Nat.{ℕ, _+_, _-_, _*_, _/_, _%_, _^_, _≤_, _<_}
+use native.Mathlib.Nat.{mod-eq-of-lt}
 use native.Mathlib.Omega.{arith}
-use lib.Bits.{bitXor}
+use lib.Bits.{bitXor, and-zero-l, and-zero-r, xor-zero-r}
 use lib.ListN.{getD}
+use lib.Pow.{shl-shr}
 use Rattle.rows.specs.Rows.{sweep}
 use Rattle.rows.proofs.Sweeps.{sweep-agree, sweep-join, sweep-stays, sweep-idle}
 use Rattle.rows.proofs.Orders.{turned-from}
@@ -16,7 +18,7 @@ use Rattle.stipples.specs.Words.{byteIn, inksOf, inked, Bytes}
 use Rattle.stipples.specs.declared.Stipple.{Stipple}
 use Rattle.stipples.specs.declared.Inks.{Inks}
 use Rattle.stipples.proofs.Drawing.{inks-draw}
-use Rattle.blits.specs.Bits.{byByte, expanded, expandedWithin, expandedBack, Apart}
+use Rattle.blits.specs.Bits.{Plain, byByte, expanded, expandedWithin, expandedBack, Apart}
 use Rattle.blits.proofs.Words.{shifted-one, mixed-below, mixed-above}
 
 -- a byte of eight pixels drawn at once
@@ -67,6 +69,29 @@ module _ (s : Stipple) (q : Inks) (bits old new m : ℕ) (l r : List ℕ) (at : 
       (λ k p h. mixed-above old new m k p)
       (e ∙ ap (λ x. sweep (λ k. at + k) (λ k w. byteIn k (bitXor old (bitXor old new % x))) 8 l) (shifted-one m few))
 
+-- where no byte is kept the old bytes are no matter
+plain-word : (q : Inks) (bits old : ℕ) → Plain q → inked q bits 0 ≡ inked q bits old
+unfolding inked
+plain-word q bits old (keep, change) = simp (keep, change, and-zero-l, and-zero-r, xor-zero-r)
+
+byte-in : (d k : ℕ) → d < 256 → byteIn k (d * 2 ^ (8 * k)) ≡ d
+byte-in d k h = ap (λ x. x % 256) (shl-shr d (8 * k)) ∙ mod-eq-of-lt h
+
+module _ (s : Stipple) (q : Inks) (bits word : ℕ) (l r : List ℕ) (at : ℕ) (same : q ≡ inksOf s) (bytes : Bytes s) (small : bits < 256) (plain : Plain q)
+    (drew : word ≡ inked q bits 0) (stood : (i : ℕ) → getD l i 0 < 256) where
+  plain-byte : (k d : ℕ) → k < 8 → d < 256 → byteIn k word ≡ stippled s (bitIn k bits) d
+  plain-byte k d h small-d =
+      inks-byte s q bits (d * 2 ^ (8 * k)) word same bytes small (drew ∙ plain-word q bits (d * 2 ^ (8 * k)) plain) k h
+      ∙ ap (stippled s (bitIn k bits)) (byte-in d k small-d)
+
+  pub plain-drawn : r ≡ sweep (λ k. at + k) (λ k w. byteIn k word) 8 l → r ≡ byByte s 8 l at bits
+  plain-drawn e =
+      e
+      ∙ sweep-agree (λ k. at + k) (λ k w. byteIn k word) l (λ k. at + k) (λ k w. stippled s (bitIn k bits) (getD w (at + k) 0)) 8 (λ k p. refl)
+      (λ k p.
+      plain-byte k (getD l (at + k) 0) p (stood (at + k))
+      ∙ ap (stippled s (bitIn k bits)) (sym (sweep-stays (λ k. at + k) (λ k w. byteIn k word) l k (at + k) (λ j q e. omega arith))))
+
 -- visit k writes at `to k` by the bit that `read k` has of the bytes as they stand
 abbrev by : Stipple → (ℕ → ℕ) → (ℕ → List ℕ → Bool) → ℕ → List ℕ → List ℕ
 by s to read n l = sweep to (λ k m. stippled s (read k m) (getD m (to k) 0)) n l
@@ -89,6 +114,15 @@ pub expanded-more : (s : Stipple) (a b n : ℕ) (l m r : List ℕ) (at : ℕ) (s
 expanded-more s a b n l m r at source from bits place start whole here there e g reads =
     more s (λ k. at + k) (λ k w. bitAt source (from + k)) a b n l m r place bits whole e g (λ k p. omega arith)
     (λ k p. let same : start + k ≡ from + (a + k) = omega arith in reads k p ∙ ap (bitAt source) same)
+
+-- 8 or 16 pixels
+pub eight-of : (n : ℕ) → (n ≡ 8) ⊎ (n ≡ 16) → 8 ≤ n
+eight-of n (inl e) = omega arith
+eight-of n (inr e) = omega arith
+
+pub only-eight : (n : ℕ) → (n ≡ 8) ⊎ (n ≡ 16) → (n ≡ 16 → ⊥) → 0 + 8 ≡ n
+only-eight n (inl e) h = omega arith
+only-eight n (inr e) h = absurd (h e)
 
 -- one pixel by a bit of the same buffer; `to` and `of` are the places and the bits in the order of the visits
 pub own-more : (s : Stipple) (to of : ℕ → ℕ) (a : ℕ) (l m r : List ℕ) (bits place start : ℕ) → place ≡ to a → start ≡ of a

@@ -1,4 +1,5 @@
 -- Rows of pixels from bits (02, R-2), in the order of their visits. Places in the source are bits.
+use mathlib.Core.Path.{_≡_}
 use mathlib.Core.List.{List}
 use mathlib.Core.Logic.{_⊎_}
 use Prim.Native.Nat.{ℕ, _+_, _-_, _*_, _/_, _≤_, _<_}
@@ -6,6 +7,7 @@ use lib.ListN.{getD}
 use Rattle.rows.specs.Rows.{sweep}
 use Rattle.stipples.specs.Stipples.{bitIn, bitAt, stippled}
 use Rattle.stipples.specs.declared.Stipple.{Stipple}
+use Rattle.stipples.specs.declared.Inks.{Inks}
 
 -- Eight bytes as one word, the first lowest.
 abbrev pub wordOf : ℕ → ℕ → ℕ → ℕ → ℕ → ℕ → ℕ → ℕ → ℕ
@@ -18,6 +20,10 @@ wordOf a b c d e f g h =
     + f * 0x100_0000_0000
     + g * 0x1_0000_0000_0000
     + h * 0x100_0000_0000_0000
+
+-- No byte is kept.
+abbrev pub Plain : Inks → Type 0
+Plain q = (q .keep ≡ 0) × (q .«keep_change» ≡ 0)
 
 -- n pixels of l from `at` on, by the bits of one byte.
 abbrev pub byByte : Stipple → ℕ → List ℕ → ℕ → ℕ → List ℕ

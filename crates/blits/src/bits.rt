@@ -1,13 +1,14 @@
 // Rows of pixels from bits, eight pixels at a time (document 02, R-2).
 ghost use mathlib.Core.Path.{_≡_};
 ghost use mathlib.Core.Bool.{true, cond};
+ghost use mathlib.Core.Logic.{_⊎_};
 ghost use Prim.Native.Nat.{ℕ, _+_, _-_, _*_, _/_, _<_, _≤_};
 ghost use lib.Dec.{ltb};
 ghost use lib.ListN.{length, getD};
 ghost use Rattle.rows.specs.Rows.{sweep};
 ghost use Rattle.stipples.specs.Stipples.{bitIn, bitAt};
 ghost use Rattle.stipples.specs.Words.{byteIn, inksOf};
-ghost use Rattle.blits.specs.Bits.{wordOf, byByte, expanded, expandedWithin, expandedBack, BitsFit, Apart};
+ghost use Rattle.blits.specs.Bits.{wordOf, Plain, byByte, expanded, expandedWithin, expandedBack, BitsFit, Apart};
 use stipples::Inks;
 use stipples::Stipple;
 
@@ -99,6 +100,18 @@ fn draw_eight(buffer: &mut [u8], at: usize, bits: u8, s: Stipple, inks: Inks)
     put_word(buffer, at, inks.draw(bits, old));
 }
 
+// The same; `plain` only where no byte is kept, so that none is read.
+fn draw_block(plain: bool, buffer: &mut [u8], at: usize, bits: u8, s: Stipple, inks: Inks)
+    requires { ⌜ (inks ≡ inksOf s) × (plain ≡ true → Plain inks) × (at + 8 ≤ length (now buffer)) ⌝ }
+    ensures { λ _. ⌜ now (buffer .exit) ≡ byByte s 8 (now (buffer .entry)) at bits ⌝ }
+{
+    if plain {
+        put_word(buffer, at, inks.draw(bits, 0));
+        return;
+    }
+    draw_eight(buffer, at, bits, s, inks);
+}
+
 // Fewer pixels, as eight of which the rest keep their bytes; one by one at the buffer's end.
 fn draw_some(buffer: &mut [u8], at: usize, bits: u8, m: usize, s: Stipple, inks: Inks)
     requires { ⌜ (inks ≡ inksOf s) × (m < 8) × (at + m ≤ length (now buffer)) ⌝ }
@@ -114,7 +127,7 @@ fn draw_some(buffer: &mut [u8], at: usize, bits: u8, m: usize, s: Stipple, inks:
 }
 
 // n pixels by the bits of another buffer from bit `first` of a byte on.
-fn expand(
+pub(crate) fn expand(
     buffer: &mut [u8],
     at: usize,
     source: &[u8],
@@ -127,10 +140,11 @@ fn expand(
     requires { ⌜ (inks ≡ inksOf s) × (at + n ≤ length (now buffer)) × BitsFit byte first n (length (now source)) ⌝ }
     ensures { λ _. ⌜ now (buffer .exit) ≡ expanded s n (now (buffer .entry)) at (now (source .entry)) (8 * byte + first) ⌝ }
 {
+    let plain = (inks.keep == 0) & (inks.keep_change == 0);
     let mut k: usize = 0;
     let mut i = byte;
     while 8 <= n - k {
-        draw_eight(buffer, at + k, bits_at(source, i, first, 8), s, inks);
+        draw_block(plain, buffer, at + k, bits_at(source, i, first, 8), s, inks);
         k += 8;
         i += 1;
     }
@@ -140,8 +154,8 @@ fn expand(
     }
 }
 
-// The same; what is done for 8 and 16 pixels is short enough to be compiled into a loop over rows.
-pub(crate) fn expand_row(
+// The same for 8 or 16 pixels, the width of most glyphs.
+pub(crate) fn expand_narrow(
     buffer: &mut [u8],
     at: usize,
     source: &[u8],
@@ -151,19 +165,13 @@ pub(crate) fn expand_row(
     s: Stipple,
     inks: Inks,
 )
-    requires { ⌜ (inks ≡ inksOf s) × (at + n ≤ length (now buffer)) × BitsFit byte first n (length (now source)) ⌝ }
+    requires { ⌜ ((n ≡ 8) ⊎ (n ≡ 16)) × (inks ≡ inksOf s) × (at + n ≤ length (now buffer)) × BitsFit byte first n (length (now source)) ⌝ }
     ensures { λ _. ⌜ now (buffer .exit) ≡ expanded s n (now (buffer .entry)) at (now (source .entry)) (8 * byte + first) ⌝ }
 {
-    if n == 8 {
-        draw_eight(buffer, at, bits_at(source, byte, first, 8), s, inks);
-        return;
-    }
+    draw_eight(buffer, at, bits_at(source, byte, first, 8), s, inks);
     if n == 16 {
-        draw_eight(buffer, at, bits_at(source, byte, first, 8), s, inks);
         draw_eight(buffer, at + 8, bits_at(source, byte + 1, first, 8), s, inks);
-        return;
     }
-    expand(buffer, at, source, byte, first, n, s, inks);
 }
 
 // True only where no pixel of a row is a byte that its bits lie in.

@@ -3,6 +3,7 @@ mod bits;
 
 ghost use mathlib.Core.Path.{_≡_};
 ghost use mathlib.Core.Bool.{Bool, true};
+ghost use mathlib.Core.Logic.{_⊎_};
 ghost use Prim.Native.Nat.{ℕ, _+_, _-_, _*_, _≤_, _<_, min, max};
 ghost use mathlib.Core.List.{List};
 ghost use lib.ListN.{length};
@@ -12,7 +13,8 @@ ghost use Rattle.rows.specs.Rows.{filledRow};
 ghost use Rattle.blits.specs.declared.Paint.the-variants.{Solid, Copied, Moved, Stippled, StippledWithin};
 ghost use Rattle.lemmas.specs.Turns.{inTurn};
 ghost use Rattle.blits.specs.Blits.{reads, sourcePixels, visited, windowInside, blitFits, blitted, spanOf, seenSpan, seenOf, partOf, rowOf, rowAt, leftEdge, placeAt, boxOf, Fitting, RowFits, RowsFit, BoxFits, WholeRows};
-use crate::bits::expand_row;
+use crate::bits::expand;
+use crate::bits::expand_narrow;
 use crate::bits::expand_within;
 use crate::bits::is_apart;
 use geometry::ORIGIN;
@@ -292,7 +294,7 @@ fn move_rows(
 }
 
 // Places in the source are bits; its rows are whole bytes, so all of them begin at the same bit of a byte.
-fn stipple_rows(
+fn wide_rows(
     up: bool,
     width: usize,
     buffer: &mut [u8],
@@ -312,11 +314,64 @@ fn stipple_rows(
     let mut byte = from / 8;
     let mut k: usize = 0;
     while k < rows {
-        expand_row(buffer, to, other, byte, first, n, s, inks);
+        expand(buffer, to, other, byte, first, n, s, inks);
         to = along(up, to, width);
         byte = along(up, byte, width);
         k += 1;
     }
+}
+
+// The same for 8 or 16 pixels: a loop of its own is compiled to be short.
+fn narrow_rows(
+    up: bool,
+    width: usize,
+    buffer: &mut [u8],
+    at: usize,
+    other: &[u8],
+    from: usize,
+    n: usize,
+    rows: usize,
+    s: Stipple,
+)
+    requires { ⌜ ((n ≡ 8) ⊎ (n ≡ 16)) × RowsFit up width at n rows (length (now buffer)) × RowsFit up (8 * width) from n rows (8 * length (now other)) ⌝ }
+    ensures { λ _. ⌜ ((back : Bool) → now (buffer .exit) ≡ inTurn (rowAt (Stippled s) back up width (8 * width) (now (other .entry)) at from n) rows (now (buffer .entry))) ⌝ }
+{
+    let inks = s.inks();
+    let first = from % 8;
+    let mut to = at;
+    let mut byte = from / 8;
+    let mut k: usize = 0;
+    while k < rows {
+        expand_narrow(buffer, to, other, byte, first, n, s, inks);
+        to = along(up, to, width);
+        byte = along(up, byte, width);
+        k += 1;
+    }
+}
+
+fn stipple_rows(
+    up: bool,
+    width: usize,
+    buffer: &mut [u8],
+    at: usize,
+    other: &[u8],
+    from: usize,
+    n: usize,
+    rows: usize,
+    s: Stipple,
+)
+    requires { ⌜ RowsFit up width at n rows (length (now buffer)) × RowsFit up (8 * width) from n rows (8 * length (now other)) ⌝ }
+    ensures { λ _. ⌜ ((back : Bool) → now (buffer .exit) ≡ inTurn (rowAt (Stippled s) back up width (8 * width) (now (other .entry)) at from n) rows (now (buffer .entry))) ⌝ }
+{
+    if n == 8 {
+        narrow_rows(up, width, buffer, at, other, from, n, rows, s);
+        return;
+    }
+    if n == 16 {
+        narrow_rows(up, width, buffer, at, other, from, n, rows, s);
+        return;
+    }
+    wide_rows(up, width, buffer, at, other, from, n, rows, s);
 }
 
 fn stipple_within(

@@ -202,12 +202,13 @@ impl Engine {
             x: ORIGIN + x / 8,
             y: p.y,
         };
-        let place = place_of(width, height, byte);
-        let Place::At(at) = place else {
-            return Source::Nothing;
-        };
-        let value = byte_at(buffer, at);
-        self.by_bit((value >> (7 - x % 8)) % 2 == 1)
+        match place_of(width, height, byte) {
+            Place::At(at) => {
+                let value = byte_at(buffer, at);
+                self.by_bit((value >> (7 - x % 8)) % 2 == 1)
+            }
+            Place::Outside => Source::Nothing,
+        }
     }
 
     // The source of visit k of a blit that reads a buffer.

@@ -1,8 +1,8 @@
 -- Each byte of eight pixels is drawn by its bit.
 -- Assumes nothing.
-use mathlib.Core.Path.{_≡_, refl, ap, ap₂, sym, _∙_}
+use mathlib.Core.Path.{_≡_, refl, ap, ap₂, _∙_}
 use mathlib.Core.Bool.{Bool, true, false, cond}
-use Prim.Native.Nat.{ℕ, _%_, _<_, min}
+use Prim.Native.Nat.{ℕ, _<_}
 use native.Mathlib.Nat.{mod-eq-of-lt}
 use native.Mathlib.Omega.{arith}
 use lib.Bits.{bitAnd, bitXor, differ, and-zero-l, xor-zero-l, xor-zero-r, and-mask, and-lt, xor-lt}
@@ -13,7 +13,7 @@ use Rattle.raster.specs.declared.Pen.{Pen}
 use Rattle.raster.proofs.Bits.{bit-and, bit-xor, bit-fill, same-bits}
 use Rattle.raster.proofs.Normal.{taken}
 use Rattle.stipples.specs.Stipples.{bitIn, stippled}
-use Rattle.stipples.specs.Words.{byteIn, eightOf, spreadOf, zeroPen, inksOf, inked, Bytes, InksDraw}
+use Rattle.stipples.specs.Words.{byteIn, eightOf, spreadOf, zeroPen, inksOf, inked, InksDraw}
 use Rattle.stipples.specs.declared.Stipple.{Stipple}
 use Rattle.stipples.proofs.Bytes.{byte-and, byte-xor, byte-eight, byte-spread}
 

@@ -1,113 +1,51 @@
 use borrow.Author.Needs.{needs}
-use mathlib.Core.Path.{_≡_, refl, _∙_}
-use mathlib.Core.Bool.{Bool}
-use Prim.Native.Nat.{_-_, _*_, _/_, _%_, _≤_}
-use native.Mathlib.Omega.{arith}
-use lib.ListN.{length}
-use Rattle.geometry.specs.Blit.{away}
-use Rattle.stipples.specs.Words.{inksOf}
-use Rattle.lemmas.specs.Turns.{inTurn}
-use Rattle.lemmas.proofs.Turns.{turn-none, turn-end}
-use Rattle.blits.specs.Blits.{rowAt, RowsFit}
-use Rattle.blits.specs.declared.Paint.the-variants.{Stippled}
-use Rattle.blits.proofs.Painted.{stippled-from}
-use Rattle.blits.proofs.Steps.{first-row, next-row, row-inside, row-far, bit-place, bits-inside, byte-far, row-more}
+use mathlib.Core.Logic.{inl, inr}
 use Rattle.blits.proofs.stipple_rows.Statement.{statement}
 use Rattle.blits.proofs.stipple_rows.Tie as tie
 
-abbrev Inv-loop : tie.InvT-loop
-Inv-loop up width buffer₀ at other from n rows s inks first to₀ byte₀ k₀ buffer to byte k =
-    (k ≤ rows)
-    × (length buffer ≡ length buffer₀)
-    × RowsFit up width at n rows (length buffer₀)
-    × RowsFit up (8 * width) from n rows (8 * length other)
-    × (inks ≡ inksOf s)
-    × (first ≡ from % 8)
-    × (to ≡ away up at (width * k))
-    × (byte ≡ away up (from / 8) (width * k))
-    × ((back : Bool) → buffer ≡ inTurn (rowAt (Stippled s) back up width (8 * width) other at from n) k buffer₀)
+narrow-rows-requires : tie.Need-narrow-rows-requires
+narrow-rows-requires c κs =
+    let told = c .before in
+    let start = told .before .before .before in
+    (inl (told .if1 .taken), start .pre .0, start .pre .1)
 
-abbrev μ-loop : tie.MeasureT-loop
-μ-loop up width buffer₀ at other from n rows s inks first to₀ byte₀ k₀ buffer to byte k = rows - k
+same-length : tie.Need-same-length
+same-length c = search needs
 
-inks-requires : tie.Need-inks-requires Inv-loop μ-loop
-inks-requires c κs = search needs
+returns : tie.Need-returns
+returns c = search needs
 
-loop-holds : tie.Need-loop-holds Inv-loop μ-loop
-loop-holds c =
-    let start = c .before .before .before in
-    let s = start .args in (
-      omega arith,
-      refl,
-      start .pre .0,
-      start .pre .1,
-      c .inks .ensures,
-      refl,
-      first-row (s .up) (s .width) (s .at),
-      first-row (s .up) (s .width) (s .from / 8),
-      λ back. turn-none _ _,
-    )
+narrow-rows-requires-2 : tie.Need-narrow-rows-requires-2
+narrow-rows-requires-2 c κs =
+    let told = c .before in
+    let start = told .before .before .before .before in
+    (inr (told .if2 .taken), start .pre .0, start .pre .1)
 
-expand-row-requires : tie.Need-expand-row-requires Inv-loop μ-loop
-expand-row-requires c κs =
-    let at = c .before .before in (
-      at .loop .inv .4,
-      rw (at .loop .inv .1) (row-inside _ _ _ _ _ _ _ _ (at .loop .inv .2) (at .loop .inv .6) (omega arith)),
-      bits-inside _ _ _ _ _ _ _ _ _ (at .loop .inv .3) (at .loop .inv .7) (at .loop .inv .5) (omega arith),
-    )
+same-length-2 : tie.Need-same-length-2
+same-length-2 c = search needs
 
-along-requires : tie.Need-along-requires Inv-loop μ-loop
-along-requires c κs = let at = c .before .before .before .before .before in row-far _ _ _ _ _ _ _ _ (at .loop .inv .2) (at .loop .inv .6) (omega arith)
+returns-2 : tie.Need-returns-2
+returns-2 c = search needs
 
-along-requires-2 : tie.Need-along-requires-2 Inv-loop μ-loop
-along-requires-2 c κs =
-    let at = c .before .before .before .before .before .before in
-    byte-far _ _ _ _ _ _ _ _ _ (at .loop .inv .3) (at .loop .inv .7) (at .loop .inv .5) (omega arith)
+wide-rows-requires : tie.Need-wide-rows-requires
+wide-rows-requires c κs = search needs
 
-add-k : tie.Need-add-k Inv-loop μ-loop
-add-k c = omega arith
+same-length-3 : tie.Need-same-length-3
+same-length-3 c = search needs
 
-loop-less : tie.Need-loop-less Inv-loop μ-loop
-loop-less c = omega arith
-
-loop-again : tie.Need-loop-again Inv-loop μ-loop
-loop-again c =
-    let done = c .before .before .before .before in
-    let at = done .before .before .before in
-    let s = at .before .before .before .before .args in (
-      omega arith,
-      done .expand-row .kept .0 ∙ at .loop .inv .1,
-      at .loop .inv .2,
-      at .loop .inv .3,
-      at .loop .inv .4,
-      at .loop .inv .5,
-      next-row (s .up) (s .width) (s .at) _ _ _ (at .loop .inv .6) (c .before .along .ensures),
-      next-row (s .up) (s .width) (s .from / 8) _ _ _ (at .loop .inv .7) (c .along2 .ensures),
-      λ back.
-          row-more _ back (s .up) (s .width) (8 * s .width) _ (s .at) (s .from) (s .n) (at .loop .k) _ _ _ _ _ (at .loop .inv .8 back) (at .loop .inv .6)
-          (bit-place _ _ _ _ _ _ _ _ _ (at .loop .inv .3) (at .loop .inv .7) (at .loop .inv .5) (omega arith))
-          (stippled-from back _ _ _ _ _ _ _ (done .expand-row .ensures)),
-    )
-
-same-length : tie.Need-same-length Inv-loop μ-loop
-same-length c = c .before .loop .inv .1
-
-returns : tie.Need-returns Inv-loop μ-loop
-returns c = let at = c .before in λ back. turn-end _ _ _ _ _ (at .loop .inv .0) (omega arith) (at .loop .inv .8 back)
+returns-3 : tie.Need-returns-3
+returns-3 c = search needs
 
 pub stipple-rows-spec : {M : Type 1} → statement M
 stipple-rows-spec =
     tie.close
     (tie.spec
-    Inv-loop
-    μ-loop
-    inks-requires
-    loop-holds
-    expand-row-requires
-    along-requires
-    along-requires-2
-    add-k
-    loop-less
-    loop-again
+    narrow-rows-requires
     same-length
-    returns)
+    returns
+    narrow-rows-requires-2
+    same-length-2
+    returns-2
+    wide-rows-requires
+    same-length-3
+    returns-3)

@@ -1,5 +1,4 @@
 use borrow.Author.Needs.{needs}
-use native.Mathlib.Omega.{arith}
 use Prim.Native.Nat.{_*_}
 use lib.Pow.{pow-pos}
 use Rattle.blits.proofs.Words.{shifted-one}

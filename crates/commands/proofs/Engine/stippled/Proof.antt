@@ -32,27 +32,14 @@ returns-2 c =
     left-of-bits (s .self) (s .width) (s .height) (s .buffer .now) (found .visit .given .0 .0) (c .if1 .taken)
     ∙ stippled-by (s .self) (s .width) (s .height) (s .k) (s .buffer .now) _ _ (first .blit-visit .ensures) (found .visit .given .1)
 
-add-by-bit : tie.Need-add-by-bit
-add-by-bit c = search needs
+add-t15 : tie.Need-add-t15
+add-t15 c = search needs
 
 place-of-requires : tie.Need-place-of-requires
 place-of-requires c κs = search needs
 
-enum-known-place : tie.Need-enum-known-place
-enum-known-place c = search needs
-
-enum-told-2 : tie.Need-enum-told-2
-enum-told-2 c = search needs
-
-returns-3 : tie.Need-returns-3
-returns-3 c =
-    let o = c .before .before in
-    let right = o .before .before in
-    let found = right .before .before .before in
-    let first = found .before .before in
-    let s = first .before .before .before .args in
-    bit-by (s .self) (s .width) (s .height) (s .buffer .now) _ (right .if1 .left) _ _ (o .place-of .ensures) (c .enum-told2 .given .1)
-    ∙ stippled-by (s .self) (s .width) (s .height) (s .k) (s .buffer .now) _ _ (first .blit-visit .ensures) (found .visit .given .1)
+enum-known-at : tie.Need-enum-known-at
+enum-known-at c = search needs
 
 byte-at-requires : tie.Need-byte-at-requires
 byte-at-requires c κs = search needs
@@ -69,8 +56,11 @@ shr-by-bit c = search needs
 by-bit-requires : tie.Need-by-bit-requires
 by-bit-requires c κs = search needs
 
-returns-4 : tie.Need-returns-4
-returns-4 c =
+enum-told-2 : tie.Need-enum-told-2
+enum-told-2 c = search needs
+
+returns-3 : tie.Need-returns-3
+returns-3 c =
     let told = c .before .before .before in
     let o = told .before .before in
     let right = o .before .before in
@@ -80,7 +70,17 @@ returns-4 c =
     let p = found .visit .given .0 .0 in
     c .by-bit .ensures
     ∙ ap (λ v. byBit (s .self) (eqb (bit (7 - (p .x - origin) % 8) v) 1)) (c .before .byte-at .ensures)
-    ∙ bit-by (s .self) (s .width) (s .height) (s .buffer .now) _ (right .if1 .left) _ _ (o .place-of .ensures) (told .place .given .1)
+    ∙ bit-by (s .self) (s .width) (s .height) (s .buffer .now) _ (right .if1 .left) _ _ (o .place-of .ensures) (told .at .given .1)
+    ∙ stippled-by (s .self) (s .width) (s .height) (s .k) (s .buffer .now) _ _ (first .blit-visit .ensures) (found .visit .given .1)
+
+returns-4 : tie.Need-returns-4
+returns-4 c =
+    let o = c .before .before in
+    let right = o .before .before in
+    let found = right .before .before .before in
+    let first = found .before .before in
+    let s = first .before .before .before .args in
+    bit-by (s .self) (s .width) (s .height) (s .buffer .now) _ (right .if1 .left) _ _ (o .place-of .ensures) (c .enum-told2 .given .1)
     ∙ stippled-by (s .self) (s .width) (s .height) (s .k) (s .buffer .now) _ _ (first .blit-visit .ensures) (found .visit .given .1)
 
 pub stippled-spec : {M : Type 1} → statement M
@@ -92,14 +92,14 @@ stippled-spec =
     enum-told
     returns
     returns-2
-    add-by-bit
+    add-t15
     place-of-requires
-    enum-known-place
-    enum-told-2
-    returns-3
+    enum-known-at
     byte-at-requires
     sub-by-bit
     cast-by-bit
     shr-by-bit
     by-bit-requires
+    enum-told-2
+    returns-3
     returns-4)
