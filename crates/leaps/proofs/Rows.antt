@@ -1,7 +1,7 @@
 -- Many visits of a blit are the rows that the row loops draw.
 -- Assumes nothing.
 use mathlib.Core.Path.{_≡_, refl, ap, sym, _∙_}
-use mathlib.Core.Bool.{Bool, true, false, cond, _&&_, _||_}
+use mathlib.Core.Bool.{Bool, true, false, not, cond, _&&_, _||_}
 use mathlib.Core.List.{List}
 use Prim.Native.Nat.{ℕ, _+_, _-_, _*_, _≤_, _<_, min, max}
 use native.Mathlib.Omega.{arith}
@@ -13,7 +13,8 @@ use Rattle.lemmas.specs.Turns.{inTurn}
 use Rattle.geometry.specs.Coordinates.{origin}
 use Rattle.geometry.specs.Clip.{rectOf, windowOf}
 use Rattle.geometry.specs.Blit.{blitCount}
-use Rattle.blits.specs.declared.Paint.the-variants.{Solid}
+use Rattle.blits.specs.declared.Paint.{Paint}
+use Rattle.blits.specs.declared.Paint.the-variants.{Solid, Copied, Moved, Stippled, StippledWithin}
 use Rattle.blits.specs.Blits.{visited, windowInside, blitFits, blitted}
 use Rattle.blits.proofs.Loops.{blit-in}
 use Rattle.entries.specs.declared.fields.Command.{Command}
@@ -23,7 +24,7 @@ use Rattle.commands.specs.Steps.{patternAfter, visitsOf}
 use Rattle.commands.specs.declared.Engine.{Engine}
 use Rattle.commands.proofs.Bounds.{count-same}
 use Rattle.commands.proofs.Tests.{flag-is}
-use Rattle.leaps.specs.Leaps.{penIn, fromOther, fromOwn, paintOf, blitIn, movedTo, movedBy, canLeap, goesByRows}
+use Rattle.leaps.specs.Leaps.{penIn, mixIn, stippleIn, paintOf, blitIn, movedTo, movedBy, canLeap, goesByRows}
 use Rattle.leaps.proofs.Visiting.{sceneOn, Marked, visits-are, Leaps, leaps-of}
 use Rattle.leaps.proofs.Blits.{count-is, marks-on}
 
@@ -108,18 +109,31 @@ module _ (e : Engine) (n width height display virt : ℕ) (g : Goes e n width he
       ∙ sym (visits-are e width height to other (rowState e width height (g .blit) (g .key-small) own other) v (g .leaps .under-way) (g .leaps .some) refl
       (rows-marked e width height (g .blit) (g .key-small) own other to v) n (g .leaps .few))
 
+-- whether one buffer is read and drawn on
+same-buffer : (to from within : Bool) (own other : Paint) → (to && from || not to && not from) ≡ within
+    → cond within own other ≡ cond to (cond from own other) (cond from other own)
+same-buffer true true within own other e = ap (λ t. cond t own other) (sym e)
+same-buffer true false within own other e = ap (λ t. cond t own other) (sym e)
+same-buffer false true within own other e = ap (λ t. cond t own other) (sym e)
+same-buffer false false within own other e = ap (λ t. cond t own other) (sym e)
+
 -- what a blit draws with, by its flags
 module _ (e : Engine) (c : Command) (is : c ≡ commandIn e) where
   pub solid-paint : c .solid ≡ true → Solid (penIn e (e .registers .fore)) ≡ paintOf e
   unfolding paintOf
   solid-paint s = rw (flag-is e c is (λ c. c .solid) true s)
 
-  pub read-paint : (to from : Bool) → c .solid ≡ false → c .«to_virtual» ≡ to → c .«from_virtual» ≡ from
-      → cond to (cond from (fromOwn e) (fromOther e)) (cond from (fromOther e) (fromOwn e)) ≡ paintOf e
+  -- from the buffer that is drawn on, or from the other one; bits, or bytes
+  pub read-paint : (within stpl : Bool) → c .solid ≡ false
+      → (c .«to_virtual» && c .«from_virtual» || not (c .«to_virtual») && not (c .«from_virtual»)) ≡ within → c .stpl ≡ stpl
+      → cond within (cond stpl (StippledWithin (stippleIn e)) (Moved (mixIn e))) (cond stpl (Stippled (stippleIn e)) (Copied (mixIn e))) ≡ paintOf e
   unfolding paintOf
-  read-paint to from s t f =
+  read-paint within stpl s w t =
       rw (
         flag-is e c is (λ c. c .solid) false s,
-        flag-is e c is (λ c. c .«to_virtual») to t,
-        flag-is e c is (λ c. c .«from_virtual») from f,
+        flag-is e c is (λ c. c .«to_virtual») (c .«to_virtual») refl,
+        flag-is e c is (λ c. c .«from_virtual») (c .«from_virtual») refl,
+        flag-is e c is (λ c. c .stpl) stpl t,
       )
+      (same-buffer (c .«to_virtual») (c .«from_virtual») within (cond stpl (StippledWithin (stippleIn e)) (Moved (mixIn e)))
+      (cond stpl (Stippled (stippleIn e)) (Copied (mixIn e))) w)

@@ -6,7 +6,7 @@ ghost use lib.ListN.{length};
 ghost use Rattle.commands.specs.Visits.{countOf};
 ghost use Rattle.commands.specs.Steps.{scene, visitsOf};
 ghost use Rattle.strokes.specs.Strokes.{dashed};
-ghost use Rattle.leaps.specs.Leaps.{mixIn, stippleIn, fromOther, fromOwn, paintOf, blitIn, penIn, strokeIn, movedBy, canLeap, goesByRows, goesByStroke};
+ghost use Rattle.leaps.specs.Leaps.{mixIn, stippleIn, paintOf, blitIn, penIn, strokeIn, movedBy, canLeap, goesByRows, goesByStroke};
 use blits::Blit;
 use blits::Paint;
 use blits::draw_blit;
@@ -57,29 +57,6 @@ fn stipple(e: Engine) -> Stipple
     }
 }
 
-// What a blit draws with that reads the other buffer, and one that reads its own.
-fn from_other(e: Engine) -> Paint
-    ensures { λ r. ⌜ r ≡ fromOther e ⌝ }
-{
-    let g = e.registers;
-    let c = command_of(g.cmd);
-    if c.stpl {
-        return Paint::Stippled(stipple(e));
-    }
-    Paint::Copied(mix(e))
-}
-
-fn from_own(e: Engine) -> Paint
-    ensures { λ r. ⌜ r ≡ fromOwn e ⌝ }
-{
-    let g = e.registers;
-    let c = command_of(g.cmd);
-    if c.stpl {
-        return Paint::StippledWithin(stipple(e));
-    }
-    Paint::Moved(mix(e))
-}
-
 // What the blit in CMD draws with.
 fn paint(e: Engine) -> Paint
     ensures { λ r. ⌜ r ≡ paintOf e ⌝ }
@@ -89,16 +66,19 @@ fn paint(e: Engine) -> Paint
     if c.solid {
         return Paint::Solid(pen(e, g.fore));
     }
-    if c.to_virtual {
-        if c.from_virtual {
-            return from_own(e);
+    let within = (c.to_virtual & c.from_virtual) | (!c.to_virtual & !c.from_virtual);
+    if c.stpl {
+        let s = stipple(e);
+        if within {
+            return Paint::StippledWithin(s);
         }
-        return from_other(e);
+        return Paint::Stippled(s);
     }
-    if c.from_virtual {
-        return from_other(e);
+    let mix = mix(e);
+    if within {
+        return Paint::Moved(mix);
     }
-    from_own(e)
+    Paint::Copied(mix)
 }
 
 // The blit in CMD, on buffers of width x height pixels.

@@ -1,5 +1,4 @@
 use borrow.Author.Needs.{needs}
-use mathlib.Core.Path.{_∙_}
 use mathlib.Core.Bool.{true, false}
 use Rattle.leaps.proofs.Rows.{solid-paint, read-paint}
 use Rattle.leaps.proofs.visits.paint.Statement.{statement}
@@ -14,41 +13,39 @@ pen-requires c κs = search needs
 returns : tie.Need-returns
 returns c = rw (c .pen .ensures) (solid-paint _ _ (c .before .before .command-of .ensures) (c .before .if1 .taken))
 
-from-own-requires : tie.Need-from-own-requires
-from-own-requires c κs = search needs
+stipple-requires : tie.Need-stipple-requires
+stipple-requires c κs = search needs
 
 returns-2 : tie.Need-returns-2
 returns-2 c =
-    let to = c .before .before in
-    let o = to .before in
-    c .from-own .ensures ∙ read-paint _ _ (o .before .command-of .ensures) true true (o .if1 .left) (to .if2 .taken) (c .before .if3 .taken)
-
-from-other-requires : tie.Need-from-other-requires
-from-other-requires c κs = search needs
+    let o = c .before in
+    let told = o .before in
+    let left = told .before .before .before .before in
+    rw (o .stipple .ensures) (read-paint _ _ (left .before .command-of .ensures) true true (left .if1 .left) (c .if3 .taken) (told .if2 .taken))
 
 returns-3 : tie.Need-returns-3
 returns-3 c =
-    let to = c .before .before in
-    let o = to .before in
-    c .from-other .ensures ∙ read-paint _ _ (o .before .command-of .ensures) true false (o .if1 .left) (to .if2 .taken) (c .before .if3 .left)
+    let o = c .before in
+    let told = o .before in
+    let left = told .before .before .before .before in
+    rw (o .stipple .ensures) (read-paint _ _ (left .before .command-of .ensures) false true (left .if1 .left) (c .if3 .left) (told .if2 .taken))
 
-from-other-requires-2 : tie.Need-from-other-requires-2
-from-other-requires-2 c κs = search needs
+mix-requires : tie.Need-mix-requires
+mix-requires c κs = search needs
 
 returns-4 : tie.Need-returns-4
 returns-4 c =
-    let to = c .before .before in
-    let o = to .before in
-    c .from-other2 .ensures ∙ read-paint _ _ (o .before .command-of .ensures) false true (o .if1 .left) (to .if2 .left) (c .before .if4 .taken)
-
-from-own-requires-2 : tie.Need-from-own-requires-2
-from-own-requires-2 c κs = search needs
+    let o = c .before in
+    let told = o .before in
+    let left = told .before .before .before .before in
+    rw (o .mix .ensures) (read-paint _ _ (left .before .command-of .ensures) true false (left .if1 .left) (c .if4 .taken) (told .if2 .left))
 
 returns-5 : tie.Need-returns-5
 returns-5 c =
-    let to = c .before .before in
-    let o = to .before in
-    c .from-own2 .ensures ∙ read-paint _ _ (o .before .command-of .ensures) false false (o .if1 .left) (to .if2 .left) (c .before .if4 .left)
+    let o = c .before in
+    let told = o .before in
+    let left = told .before .before .before .before in
+    rw (o .mix .ensures) (read-paint _ _ (left .before .command-of .ensures) false false (left .if1 .left) (c .if4 .left) (told .if2 .left))
 
 pub paint-spec : {M : Type 1} → statement M
 paint-spec =
@@ -57,11 +54,9 @@ paint-spec =
     command-of-requires
     pen-requires
     returns
-    from-own-requires
+    stipple-requires
     returns-2
-    from-other-requires
     returns-3
-    from-other-requires-2
+    mix-requires
     returns-4
-    from-own-requires-2
     returns-5)
