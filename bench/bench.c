@@ -29,7 +29,7 @@ enum { CMD, FORE, BACK, MASK, KEY, LPAT, PCTRL, CLPTL, CLPBR, XY0, XY2, XY3, XY1
 
 enum { SIDE = 2048, ENTRIES = 4096, PIXELS = SIDE * SIDE, MOST_WORKS = 400, KEY_BYTE = 0x5A };
 
-enum shape { FILL, COPY, LINES, WRITES };
+enum shape { FILL, COPY, STIPPLE, LINES, WRITES };
 enum angle { ANY, HORIZONTAL, VERTICAL, DIAGONAL };
 enum yardstick { NO_YARDSTICK, BY_MEMSET, BY_MEMCPY };
 
@@ -44,6 +44,7 @@ enum goal_number {
     CLIPPED_LINES,
     DASHED_LINES,
     SMALL_BLITS,
+    STIPPLES, /* one bit a pixel: glyphs too */
     MEMSET,
     MEMCPY,
     GOALS
@@ -65,6 +66,7 @@ struct work {
     int32_t commands;      /* in the list */
     bool scattered;        /* over the field, not in one place */
     bool from_virtual, keyed, many_hits, clip;
+    bool unaligned;         /* a stipple whose first bit does not begin a byte */
     int32_t move_x, move_y; /* of a copy within the display */
     int32_t length;         /* pixels of a line */
     enum angle angle;
@@ -78,7 +80,7 @@ struct work {
 struct sizes {
     int32_t board_width, board_height;
     int32_t large_width, large_height, middle_width, middle_height;
-    int32_t small, field, long_line, short_line;
+    int32_t small, field, glyphs, long_line, short_line;  /* glyphs in the font */
     int32_t small_blits, long_lines, short_lines, writes; /* in a list */
     int32_t within_x, within_y;                           /* how far a copy within the display goes */
 };
@@ -86,7 +88,7 @@ struct sizes {
 static const struct sizes full_sizes = {
     .board_width = SIDE, .board_height = SIDE,
     .large_width = 2000, .large_height = 2000, .middle_width = 500, .middle_height = 500,
-    .small = 10, .field = 640, .long_line = 500, .short_line = 10,
+    .small = 10, .field = 640, .glyphs = 256, .long_line = 500, .short_line = 10,
     .small_blits = 2000, .long_lines = 400, .short_lines = 2000, .writes = 4000,
     .within_x = 1101, .within_y = 700,
 };
@@ -94,7 +96,7 @@ static const struct sizes full_sizes = {
 static const struct sizes tiny_sizes = {
     .board_width = 160, .board_height = 96,
     .large_width = 100, .large_height = 60, .middle_width = 61, .middle_height = 37,
-    .small = 10, .field = 64, .long_line = 50, .short_line = 10,
+    .small = 10, .field = 64, .glyphs = 40, .long_line = 50, .short_line = 10,
     .small_blits = 40, .long_lines = 40, .short_lines = 40, .writes = 100,
     .within_x = 87, .within_y = 45,
 };
@@ -215,6 +217,17 @@ static void target_place(const struct work *w, int32_t *x, int32_t *y)
     *y += w->from_virtual || w->shape == FILL ? 4 : w->move_y;
 }
 
+/* The upper left bit of a stipple: of any glyph in a font beside the field, or of one that is drawn in one place. */
+static void bit_place(const struct work *w, int32_t *x, int32_t *y)
+{
+    source_place(w, x, y);
+    *x *= 8;
+    if (w->scattered)
+        *x = 8 * (sizes.field + 8) + w->width * random_between(0, sizes.glyphs - 1);
+    if (w->unaligned)
+        *x += random_between(1, 7);
+}
+
 static void put_blit(const struct work *w)
 {
     int32_t from_x, from_y, to_x, to_y;
@@ -228,6 +241,8 @@ static void put_blit(const struct work *w)
         to_x = from_x + w->move_x;
         to_y = from_y + w->move_y;
     }
+    if (w->shape == STIPPLE)
+        bit_place(w, &from_x, &from_y);
     if (w->shape == FILL)
         put(FORE, random_word() & 0xFF);
     else
@@ -246,9 +261,17 @@ static void put_blit_clip(const struct work *w)
         put_clip(x, y, x + w->width * 2 / 3, y + w->height);
 }
 
+static void put_pens(void)
+{
+    put(FORE, 0xC3);
+    put(BACK, 0x3A);
+}
+
 static void build_blits(const struct work *w)
 {
-    put(CMD, BITBLT | flags_of(w) | (w->shape == FILL ? SOLID : 0));
+    put(CMD, BITBLT | flags_of(w) | (w->shape == FILL ? SOLID : w->shape == STIPPLE ? STPL : 0));
+    if (w->shape == STIPPLE)
+        put_pens();
     put(MASK, w->mask);
     put(KEY, KEY_BYTE);
     put(XY2, word_of(w->width, w->height));
@@ -300,8 +323,7 @@ static void put_lines(const struct work *w)
 static void build_lines(const struct work *w)
 {
     const uint32_t flags = flags_of(w) | (w->dashed ? STPL : SOLID);
-    put(FORE, 0xC3);
-    put(BACK, 0x3A);
+    put_pens();
     put(MASK, w->mask);
     put(LPAT, 0x00F0F32D);
     put(PCTRL, (w->dashed ? w->scale - 1 : 0) << 5 | 24);
@@ -432,16 +454,23 @@ static bool compare_work(const struct work *w, uint64_t budget)
 
 /* Random lists, for the comparison alone */
 
+static uint32_t random_style(void)
+{
+    if (random_chance(40))
+        return STPL | (random_chance(10) ? SOLID : 0) | (random_chance(40) ? TRNSP : 0);
+    if (random_chance(30))
+        return SOLID | (random_chance(20) ? TRNSP : 0);
+    return random_chance(40) ? KEYED : 0;
+}
+
 static uint32_t random_command(void)
 {
-    const uint32_t code = random_word() % 16 << 24;
+    const uint32_t code = (random_chance(25) ? 3 : random_word() % 16) << 24;
     uint32_t flags = code | (random_chance(40) ? CLIP : 0) | (random_chance(30) ? TO_VIRTUAL : 0);
     if (random_chance(3))
         return 0;
-    if (random_chance(50)) {
-        flags |= BITBLT | (random_chance(40) ? FROM_VIRTUAL : 0);
-        return flags | (random_chance(30) ? SOLID : random_chance(40) ? KEYED : 0);
-    }
+    if (random_chance(50))
+        return flags | BITBLT | (random_chance(40) ? FROM_VIRTUAL : 0) | random_style();
     flags |= random_chance(50) ? LINE : PLINE;
     flags |= random_chance(30) ? SOLID : STPL;
     flags |= random_chance(30) ? TRNSP : 0;
@@ -449,17 +478,27 @@ static uint32_t random_command(void)
     return flags | (random_chance(30) ? PRST : 0);
 }
 
-static uint32_t random_point(void)
+/* Often in one row of the board, so that source and target of a blit share theirs. */
+static uint32_t random_point(int32_t columns)
 {
     if (random_chance(2))
         return random_word();
-    return word_of(random_between(-20, (int32_t)board.width + 20), random_between(-20, (int32_t)board.height + 20));
+    const int32_t height = (int32_t)board.height;
+    const int32_t y = random_chance(40) ? height / 3 : random_between(-20, height + 20);
+    return word_of(random_between(-20, columns + 20), y);
 }
 
 static uint32_t random_pctrl(void)
 {
     const uint32_t plen = random_word() % 32, pscl = random_word() % 8;
     return plen | pscl << 5 | random_word() % (plen ? plen : 32) << 8 | random_word() % (pscl + 1) << 13;
+}
+
+/* Often KEY_BYTE, or one that leaves raster codes little to do. */
+static uint32_t random_byte(void)
+{
+    static const uint8_t bytes[] = {0, 0xFF, KEY_BYTE, KEY_BYTE};
+    return random_chance(60) ? bytes[random_word() % 4] : random_word() & 0xFF;
 }
 
 static uint32_t random_data(uint32_t number)
@@ -472,7 +511,7 @@ static uint32_t random_data(uint32_t number)
     case FORE:
     case BACK:
     case KEY:
-        return random_chance(50) ? KEY_BYTE : random_word() & 0xFF;
+        return random_byte();
     case LPAT:
         return random_word();
     case PCTRL:
@@ -481,11 +520,14 @@ static uint32_t random_data(uint32_t number)
         return word_of(random_between(0, (int32_t)board.width + 10), random_between(0, (int32_t)board.height + 10));
     case XY3:
         return random_word() % 4;
+    case XY0:
+        return random_point((int32_t)board.width * (random_chance(40) ? 8 : 1));
     default:
-        return random_point();
+        return random_point((int32_t)board.width);
     }
 }
 
+/* Every third list is run a few steps at a time. */
 static bool compare_random(uint64_t seed)
 {
     char name[40];
@@ -498,7 +540,7 @@ static bool compare_random(uint64_t seed)
         const uint32_t number = random_chance(30) ? XY1 : random_word() % 13;
         put(number, random_data(number));
     }
-    return draws_the_same(name, UINT64_MAX);
+    return draws_the_same(name, seed % 3 == 0 ? seed : UINT64_MAX);
 }
 
 /* The kinds of work */
@@ -519,14 +561,16 @@ static struct work *add(enum shape shape, const char *format, ...)
     return w;
 }
 
-enum extent { LARGE, MIDDLE, SMALL };
+enum extent { LARGE, MIDDLE, SMALL, GLYPH, WIDE_GLYPH };
 
 static void set_extent(struct work *w, enum extent extent)
 {
-    w->width = extent == LARGE ? sizes.large_width : extent == MIDDLE ? sizes.middle_width : sizes.small;
-    w->height = extent == LARGE ? sizes.large_height : extent == MIDDLE ? sizes.middle_height : sizes.small;
-    w->commands = extent == SMALL ? sizes.small_blits : 1;
-    w->scattered = extent == SMALL;
+    const int32_t widths[] = {sizes.large_width, sizes.middle_width, sizes.small, 8, 16};
+    const int32_t heights[] = {sizes.large_height, sizes.middle_height, sizes.small, 16, 16};
+    w->width = widths[extent];
+    w->height = heights[extent];
+    w->commands = extent >= SMALL ? sizes.small_blits : 1;
+    w->scattered = extent >= SMALL;
     w->goal = extent == SMALL ? SMALL_BLITS : FILLS;
     snprintf(w->size, sizeof w->size, "%" PRId32 " x %" PRId32, w->width, w->height);
 }
@@ -628,6 +672,48 @@ static void add_all_copies(void)
     }
 }
 
+/* Where the bits of a stipple lie and how it is drawn: plainly, or in one way otherwise. */
+enum { PLAINLY, UNALIGNED, UNDER_CLIP, LEFTWARDS, WITHIN };
+
+static void add_stipple(enum extent extent, uint32_t code, bool transparent, int way)
+{
+    static const char *const names[] = {"", " unaligned", " clip", " XY3 2", " within"};
+    struct work *w = add(STIPPLE, "stipple %s code %u%s", transparent ? "TRNSP" : "opaque", (unsigned)code, names[way]);
+    set_extent(w, extent);
+    w->code = code;
+    w->transparent = transparent;
+    w->from_virtual = way != WITHIN;
+    w->unaligned = way == UNALIGNED;
+    w->clip = way == UNDER_CLIP;
+    w->direction = way == LEFTWARDS ? 2 : 0;
+    w->goal = STIPPLES;
+}
+
+static void add_plain_stipples(enum extent extent)
+{
+    for (int transparent = 0; transparent <= 1; transparent++)
+        for (uint32_t code = 3; code <= 6; code += 3)
+            add_stipple(extent, code, transparent, PLAINLY);
+}
+
+static void add_other_stipples(enum extent extent)
+{
+    for (int way = UNALIGNED; way <= LEFTWARDS; way++)
+        add_stipple(extent, 3, false, way);
+}
+
+static void add_all_stipples(void)
+{
+    add_plain_stipples(MIDDLE);
+    add_other_stipples(MIDDLE);
+    add_plain_stipples(GLYPH);
+    add_other_stipples(GLYPH);
+    add_stipple(GLYPH, 3, true, UNALIGNED);
+    add_stipple(GLYPH, 3, false, WITHIN);
+    add_stipple(GLYPH, 3, true, WITHIN);
+    add_plain_stipples(WIDE_GLYPH);
+}
+
 static struct work *add_line(const char *name, enum angle angle, bool is_long)
 {
     static const char *const names[] = {"any angle", "horizontal", "vertical", "45 degrees"};
@@ -690,6 +776,7 @@ static void add_works(void)
     add_fills(LARGE);
     add_fills(SMALL);
     add_all_copies();
+    add_all_stipples();
     add_solid_lines(true);
     add_solid_lines(false);
     add_dashed_lines(true);
@@ -801,6 +888,7 @@ static struct goal goals[GOALS] = {
     [CLIPPED_LINES] = {"solid lines of 500 under a clip", 0.8, 0, 0, 1e9, 0},
     [DASHED_LINES] = {"dashed lines", 0.7, 0, 0, 1e9, 0},
     [SMALL_BLITS] = {"10 x 10", 0.65, 0, 0, 1e9, 0},
+    [STIPPLES] = {"glyphs and stipples", 0.7, 0, 0, 1e9, 0},
     [MEMSET] = {"fills of 2000 x 2000, to memset", 0.7, 0, 0, 1e9, 0},
     [MEMCPY] = {"copies of 2000 x 2000, to memcpy", 0.7, 0, 0, 1e9, 0},
 };
@@ -918,8 +1006,10 @@ static void print_cut(const struct work *w)
 
 static bool is_cut(const struct work *w)
 {
-    static const char *const names[] = {"fill code 3", "fill code 6", "copy between code 3", "copy within code 6",
-                                        "line any angle code 3", "dashed any angle opaque scale 4"};
+    static const char *const names[] = {"fill code 3",           "fill code 6",
+                                        "copy between code 3",   "copy within code 6",
+                                        "stipple opaque code 3", "line any angle code 3",
+                                        "dashed any angle opaque scale 4"};
     for (size_t i = 0; i < sizeof names / sizeof *names; i++)
         if (strcmp(w->name, names[i]) == 0 && !is_small(w) && w->width != sizes.large_width)
             return true;
