@@ -1,29 +1,32 @@
 // The new byte of a pixel: raster code, source byte, old byte and plane mask (document 01, Pixels).
 ghost use mathlib.Core.Path.{_≡_};
 ghost use Prim.Native.Nat.{_<_, _-_, _*_};
-ghost use lib.Bits.{bitAnd};
-ghost use Rattle.raster.specs.Raster.{bit, newByte};
+ghost use lib.Bits.{bitXor};
+ghost use Rattle.raster.specs.Raster.{newByte};
 ghost use Rattle.raster.specs.Selectors.{penOf, drawn, selectorsOf, selected};
 
-// Of the bits in `cells`, whose source bit is s and whose old bit is d, those that the code sets: all of them or none,
-// by its bit 3 - 2s - d.
-fn part(code: u8, s: u8, d: u8, cells: u8) -> u8
-    requires { ⌜ (s < 2) × (d < 2) ⌝ }
-    ensures { λ r. ⌜ r ≡ bitAnd (bit (3 - 2 * s - d) code * 255) cells ⌝ }
+// The bits of x that are b, as ones: x itself for a 1, its complement for a 0.
+fn places(x: u8, b: u8) -> u8
+    requires { ⌜ b < 2 ⌝ }
+    ensures { λ r. ⌜ r ≡ bitXor x ((1 - b) * 255) ⌝ }
 {
-    ((code >> (3 - 2 * s - d)) % 2 * 255) & cells
+    x ^ ((1 - b) * 255)
 }
 
-// The new byte of a pixel.
+// The new byte of a pixel. Where the source bit is s and the old bit is d, the new bit is bit 3 - 2s - d of the code; where
+// the mask's bit is 0 the old bit stays. What pens and selectors know of a code comes from this function.
 pub fn new_byte(code: u8, source: u8, old: u8, mask: u8) -> u8
     ensures { λ r. ⌜ r ≡ newByte code source old mask ⌝ }
 {
-    let no_source = source ^ 255;
-    let no_old = old ^ 255;
-    let new = part(code, 0, 0, no_source & no_old)
-        | part(code, 0, 1, no_source & old)
-        | part(code, 1, 0, source & no_old)
-        | part(code, 1, 1, source & old);
+    let mut new: u8 = 0;
+    let mut pair: u8 = 0;
+    while pair < 4 {
+        let s = pair / 2;
+        let d = pair % 2;
+        let new_bit = (code >> (3 - 2 * s - d)) % 2;
+        new |= new_bit * 255 & places(source, s) & places(old, d);
+        pair += 1;
+    }
     (new & mask) | (old & (mask ^ 255))
 }
 

@@ -7,3 +7,4 @@ pub mod Writing
 pub mod Commutes
 pub mod Sequence
 pub mod Rows
+pub mod Codes

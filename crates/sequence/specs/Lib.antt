@@ -2,3 +2,4 @@ pub mod Paper
 pub mod World
 pub mod Demand
 pub mod Examples
+pub mod Codes

@@ -1,26 +1,78 @@
 use borrow.Author.Needs.{needs}
-use Rattle.raster.proofs.Rule.{rule}
+use native.Mathlib.Omega.{arith}
+use mathlib.Core.Path.{_≡_, ap, _∙_}
+use Prim.Native.Nat.{_-_, _≤_}
+use Rattle.lemmas.proofs.Turns.{turn-none, turn-more, turn-end}
+use Rattle.raster.proofs.Rule.{turn, setIn, masked, rule}
 use Rattle.raster.proofs.new_byte.Statement.{statement}
 use Rattle.raster.proofs.new_byte.Tie as tie
 
-part-requires : tie.Need-part-requires
-part-requires c κs = search needs
+abbrev Inv-loop : tie.InvT-loop
+Inv-loop code source old mask new₀ pair₀ new pair = (pair ≤ 4) × (new ≡ setIn code source old pair)
 
-part-requires-2 : tie.Need-part-requires-2
-part-requires-2 c κs = search needs
+abbrev μ-loop : tie.MeasureT-loop
+μ-loop code source old mask new₀ pair₀ new pair = 4 - pair
 
-part-requires-3 : tie.Need-part-requires-3
-part-requires-3 c κs = search needs
+loop-holds : tie.Need-loop-holds Inv-loop μ-loop
+loop-holds c = (omega arith, turn-none _ _)
 
-part-requires-4 : tie.Need-part-requires-4
-part-requires-4 c κs = search needs
+mul-new-bit : tie.Need-mul-new-bit Inv-loop μ-loop
+mul-new-bit c = omega arith
 
-returns : tie.Need-returns
-returns c =
+sub-new-bit : tie.Need-sub-new-bit Inv-loop μ-loop
+sub-new-bit c = omega arith
+
+sub-new-bit-2 : tie.Need-sub-new-bit-2 Inv-loop μ-loop
+sub-new-bit-2 c = omega arith
+
+shr-new-bit : tie.Need-shr-new-bit Inv-loop μ-loop
+shr-new-bit c = omega arith
+
+mul-new : tie.Need-mul-new Inv-loop μ-loop
+mul-new c = omega arith
+
+places-requires : tie.Need-places-requires Inv-loop μ-loop
+places-requires c κs = omega arith
+
+places-requires-2 : tie.Need-places-requires-2 Inv-loop μ-loop
+places-requires-2 c κs = omega arith
+
+add-pair : tie.Need-add-pair Inv-loop μ-loop
+add-pair c = omega arith
+
+loop-less : tie.Need-loop-less Inv-loop μ-loop
+loop-less c = omega arith
+
+loop-again : tie.Need-loop-again Inv-loop μ-loop
+loop-again c =
     let args = c .before .before .before .before .args in
-    rw (c .before .before .before .part .ensures, c .before .before .part2 .ensures, c .before .part3 .ensures, c .part4 .ensures)
-    (rule (args .code) (args .source) (args .old) (args .mask) (search needs) (search needs) (search needs))
+    let o = c .before .before .before .loop in (
+      omega arith,
+      turn-more (turn (args .code) (args .source) (args .old)) 0 (o .pair) (o .new) _ (o .inv .1) (rw (c .before .places .ensures, c .places2 .ensures)),
+    )
+
+returns : tie.Need-returns Inv-loop μ-loop
+returns c =
+    let args = c .before .before .args in
+    let o = c .before .loop in
+    ap (λ x. masked x (args .old) (args .mask)) (turn-end _ 0 (o .pair) 4 (o .new) (o .inv .0) (omega arith) (o .inv .1))
+    ∙ rule (args .code) (args .source) (args .old) (args .mask) (search needs) (search needs) (search needs)
 
 pub new-byte-spec : {M : Type 1} → statement M
 new-byte-spec =
-    tie.close (tie.spec part-requires part-requires-2 part-requires-3 part-requires-4 returns)
+    tie.close
+    (tie.spec
+    Inv-loop
+    μ-loop
+    loop-holds
+    mul-new-bit
+    sub-new-bit
+    sub-new-bit-2
+    shr-new-bit
+    mul-new
+    places-requires
+    places-requires-2
+    add-pair
+    loop-less
+    loop-again
+    returns)
