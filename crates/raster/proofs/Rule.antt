@@ -16,10 +16,10 @@ use Rattle.raster.proofs.Bits.{bit-and, bit-or, bit-xor, bit-fill, bit-
 -- a turn of the loop: of a byte, and of one bit of it; in turn n the source bit is n / 2 and the old bit n % 2
 abbrev pub setBy : ℕ → ℕ → ℕ → ℕ → ℕ
 setBy code s d n =
-    bitAnd (bitAnd (bit (3 - 2 * (n / 2) - n % 2) code * 255) (bitXor s ((1 - n / 2) * 255))) (bitXor d ((1 - n % 2) * 255))
+    bitAnd (bit (3 - 2 * (n / 2) - n % 2) code * 255) (bitAnd (bitXor s ((1 - n / 2) * 255)) (bitXor d ((1 - n % 2) * 255)))
 
 abbrev bitBy : ℕ → ℕ → ℕ → ℕ → ℕ
-bitBy code s d n = min (min (bit (3 - 2 * (n / 2) - n % 2) code) (differ s (1 - n / 2))) (differ d (1 - n % 2))
+bitBy code s d n = min (bit (3 - 2 * (n / 2) - n % 2) code) (min (differ s (1 - n / 2)) (differ d (1 - n % 2)))
 
 -- what the first n turns have set
 abbrev pub turn : ℕ → ℕ → ℕ → ℕ → ℕ → ℕ

@@ -24,7 +24,8 @@ pub fn new_byte(code: u8, source: u8, old: u8, mask: u8) -> u8
         let s = pair / 2;
         let d = pair % 2;
         let new_bit = (code >> (3 - 2 * s - d)) % 2;
-        new |= new_bit * 255 & places(source, s) & places(old, d);
+        let here = places(source, s) & places(old, d);
+        new |= new_bit * 255 & here;
         pair += 1;
     }
     (new & mask) | (old & (mask ^ 255))

@@ -28,14 +28,14 @@ sub-new-bit-2 c = omega arith
 shr-new-bit : tie.Need-shr-new-bit Inv-loop μ-loop
 shr-new-bit c = omega arith
 
-mul-new : tie.Need-mul-new Inv-loop μ-loop
-mul-new c = omega arith
-
 places-requires : tie.Need-places-requires Inv-loop μ-loop
 places-requires c κs = omega arith
 
 places-requires-2 : tie.Need-places-requires-2 Inv-loop μ-loop
 places-requires-2 c κs = omega arith
+
+mul-new : tie.Need-mul-new Inv-loop μ-loop
+mul-new c = omega arith
 
 add-pair : tie.Need-add-pair Inv-loop μ-loop
 add-pair c = omega arith
@@ -69,9 +69,9 @@ new-byte-spec =
     sub-new-bit
     sub-new-bit-2
     shr-new-bit
-    mul-new
     places-requires
     places-requires-2
+    mul-new
     add-pair
     loop-less
     loop-again
