@@ -3,7 +3,7 @@
 -- Assumes nothing.
 use mathlib.Core.Path.{_≡_, ap, ap₂, sym, _∙_}
 use mathlib.Core.Bool.{Bool}
-use Prim.Native.Nat.{ℕ, zero, suc, _-_, _*_, _/_, _%_, _≤_, _<_, min, max}
+use Prim.Native.Nat.{ℕ, zero, suc, _+_, _-_, _*_, _/_, _%_, _≤_, _<_, min, max}
 use native.Mathlib.Nat.{lt-of-le-of-lt}
 use native.Mathlib.Omega.{arith}
 use lib.Bits.{bitAnd, bitOr, bitXor, differ, and-le-l, and-le-r, or-lt}
@@ -11,25 +11,32 @@ use lib.Dec.{T, eqb, eqb→eq, lit<}
 use Rattle.raster.specs.Raster.{bit, newBit, newByte}
 use Rattle.lemmas.specs.Turns.{inTurn}
 use Rattle.lemmas.proofs.Finite.{all, at}
+use Rattle.lemmas.proofs.Turns.{turn-more}
 use Rattle.raster.proofs.Bits.{bit-and, bit-or, bit-xor, bit-fill, bit-low, by-bits, byte-ext}
 
--- a turn of the loop: of a byte, and of one bit of it; in turn n the source bit is n / 2 and the old bit n % 2
-abbrev pub setBy : ℕ → ℕ → ℕ → ℕ → ℕ
+-- what turn n of the loop sets, in a byte and in one bit of it: the source bit is n / 2 and the old bit n % 2
+abbrev setBy : ℕ → ℕ → ℕ → ℕ → ℕ
 setBy code s d n =
     bitAnd (bit (3 - 2 * (n / 2) - n % 2) code * 255) (bitAnd (bitXor s ((1 - n / 2) * 255)) (bitXor d ((1 - n % 2) * 255)))
 
 abbrev bitBy : ℕ → ℕ → ℕ → ℕ → ℕ
 bitBy code s d n = min (bit (3 - 2 * (n / 2) - n % 2) code) (min (differ s (1 - n / 2)) (differ d (1 - n % 2)))
 
--- what the first n turns have set
-abbrev pub turn : ℕ → ℕ → ℕ → ℕ → ℕ → ℕ
+-- a turn, and what the first n turns have set in a byte
+abbrev turn : ℕ → ℕ → ℕ → ℕ → ℕ → ℕ
 turn code s d n x = bitOr x (setBy code s d n)
 
 abbrev pub setIn : ℕ → ℕ → ℕ → ℕ → ℕ
 setIn code s d n = inTurn (turn code s d) n 0
 
+-- what they have set in one bit of it
 abbrev bitIn : ℕ → ℕ → ℕ → ℕ → ℕ
 bitIn code s d n = inTurn (λ n x. max x (bitBy code s d n)) n 0
+
+-- the loop's next turn, p and q being the bits that are the turn's source bit and its old bit
+pub next-turn : (code s d n x p q : ℕ) → x ≡ setIn code s d n → p ≡ bitXor s ((1 - n / 2) * 255) → q ≡ bitXor d ((1 - n % 2) * 255)
+    → bitOr x (bitAnd (bit (3 - 2 * (n / 2) - n % 2) code * 255) (bitAnd p q)) ≡ setIn code s d (n + 1)
+next-turn code s d n x p q e f g = turn-more (turn code s d) 0 n x _ e (rw (f, g))
 
 bit-by : (k code s d n : ℕ) → k < 8 → n < 4 → bit k (setBy code s d n) ≡ bitBy code (bit k s) (bit k d) n
 bit-by k code s d n h l =

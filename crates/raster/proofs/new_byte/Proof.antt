@@ -2,8 +2,8 @@ use borrow.Author.Needs.{needs}
 use native.Mathlib.Omega.{arith}
 use mathlib.Core.Path.{_≡_, ap, _∙_}
 use Prim.Native.Nat.{_-_, _≤_}
-use Rattle.lemmas.proofs.Turns.{turn-none, turn-more, turn-end}
-use Rattle.raster.proofs.Rule.{turn, setIn, masked, rule}
+use Rattle.lemmas.proofs.Turns.{turn-none, turn-end}
+use Rattle.raster.proofs.Rule.{setIn, next-turn, masked, rule}
 use Rattle.raster.proofs.new_byte.Statement.{statement}
 use Rattle.raster.proofs.new_byte.Tie as tie
 
@@ -46,10 +46,8 @@ loop-less c = omega arith
 loop-again : tie.Need-loop-again Inv-loop μ-loop
 loop-again c =
     let args = c .before .before .before .before .args in
-    let o = c .before .before .before .loop in (
-      omega arith,
-      turn-more (turn (args .code) (args .source) (args .old)) 0 (o .pair) (o .new) _ (o .inv .1) (rw (c .before .places .ensures, c .places2 .ensures)),
-    )
+    let o = c .before .before .before .loop in
+    (omega arith, next-turn (args .code) (args .source) (args .old) (o .pair) (o .new) _ _ (o .inv .1) (c .before .places .ensures) (c .places2 .ensures))
 
 returns : tie.Need-returns Inv-loop μ-loop
 returns c =
