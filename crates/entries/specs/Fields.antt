@@ -1,5 +1,5 @@
 -- The fields of CMD and PCTRL (01, Entry layout).
-use mathlib.Core.Bool.{Bool, cond}
+use mathlib.Core.Bool.{Bool, cond, _&&_, _||_}
 use Prim.Native.Nat.{ℕ, _+_, _/_, _%_, _^_}
 use lib.Dec.{eqb}
 use Rattle.entries.specs.declared.fields.Command.{Command}
@@ -29,6 +29,26 @@ commandOf word =
       «from_virtual» = flag 16 word;
       «to_virtual» = flag 15 word;
     }
+
+-- The kinds of commands: "Opcodes NOOP 0, BITBLT 1, LINE 2, PLINE 5". NOOP draws nothing.
+abbrev pub isBlit : Command → Bool
+isBlit c = eqb (c .opcode) 1
+
+abbrev pub isPolyline : Command → Bool
+isPolyline c = eqb (c .opcode) 5
+
+abbrev pub isLine : Command → Bool
+isLine c = eqb (c .opcode) 2 || isPolyline c
+
+abbrev pub draws : Command → Bool
+draws c = isBlit c || isLine c
+
+-- "XY1 triggers the command in CMD": whether a write of a register does, and whether a command that draws is triggered.
+abbrev pub isTrigger : ℕ → Bool
+isTrigger register = eqb register 12
+
+abbrev pub triggers : ℕ → Command → Bool
+triggers register c = isTrigger register && draws c
 
 -- "PLEN 4..0, 0 meaning 32 bits; PSCL 7..5, scale PSCL + 1; SPTR 12..8; SSCL 15..13"
 abbrev pub plen : ℕ → ℕ

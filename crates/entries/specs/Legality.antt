@@ -1,16 +1,14 @@
--- Which entries are legal (01, Entry layout), and the first that is not.
-use mathlib.Core.Bool.{Bool, false, not, cond, _&&_, _||_}
+-- Which entries are legal (01, Entry layout).
+use mathlib.Core.Bool.{Bool, false, not, _&&_, _||_}
 use mathlib.Core.List.{List}
-use Prim.Native.Nat.{ℕ, zero, suc, _/_, _%_, _^_}
+use Prim.Native.Nat.{ℕ, _/_, _%_, _^_}
 use lib.Dec.{eqb, leb, ltb}
 use Rattle.entries.specs.Layout.{decodedOf}
-use Rattle.entries.specs.Fields.{commandOf, lengthOf, pscl, sptr, sscl}
+use Rattle.entries.specs.Fields.{commandOf, isBlit, isLine, lengthOf, pscl, sptr, sscl}
 use Rattle.entries.specs.declared.decoding.Entry.{Entry}
 use Rattle.entries.specs.declared.decoding.Decoded.{Decoded}
 use Rattle.entries.specs.declared.decoding.Decoded.the-variants.{Whole, Nothing}
 use Rattle.entries.specs.declared.fields.Command.{Command}
-use Rattle.entries.specs.declared.legality.Illegal.{Illegal}
-use Rattle.entries.specs.declared.legality.Illegal.the-variants.{At, Nowhere}
 
 -- "BITBLT: NLST, PRST zero"; KEY only without SOLID. STPL is legal since 02, R-2: "6 stays for KEY with STPL and for TRNSP with
 -- neither STPL nor SOLID."
@@ -25,12 +23,11 @@ blitLegal c =
 abbrev pub lineLegal : Command → Bool
 lineLegal c = not (c .key) && not (c .«from_virtual») && (c .solid || c .stpl)
 
--- NOOP 0, BITBLT 1, LINE 2, PLINE 5; bits 14 to 0 "rest zero"; "NOOP: all else zero. Other opcodes are illegal."
+-- Bits 14 to 0 "rest zero"; "NOOP: all else zero. Other opcodes are illegal."
 unfoldable pub cmdLegal : ℕ → Bool
 cmdLegal word =
     let c = commandOf word in
-    eqb word 0
-    || (eqb (word % 2 ^ 15) 0 && (eqb (c .opcode) 1 && blitLegal c || (eqb (c .opcode) 2 || eqb (c .opcode) 5) && lineLegal c))
+    eqb word 0 || (eqb (word % 2 ^ 15) 0 && (isBlit c && blitLegal c || isLine c && lineLegal c))
 
 -- bits 31 to 16 "rest zero. Illegal where SSCL > PSCL, or SPTR is not below the length."
 unfoldable pub pctrlLegal : ℕ → Bool
@@ -60,8 +57,3 @@ decodedLegal Nothing = false
 
 abbrev pub legalAt : List ℕ → ℕ → Bool
 legalAt l k = decodedLegal (decodedOf l k)
-
--- The first illegal one of n entries from place k on.
-unfoldable pub firstIllegal : List ℕ → ℕ → ℕ → Illegal
-firstIllegal l k zero = Nowhere
-firstIllegal l k (suc n) = cond (legalAt l k) (firstIllegal l (suc k) n) (At k)

@@ -1,6 +1,6 @@
 // The fields of CMD and PCTRL.
 ghost use mathlib.Core.Path.{_≡_};
-ghost use Rattle.entries.specs.Fields.{commandOf, lengthOf, patternControlOf};
+ghost use Rattle.entries.specs.Fields.{commandOf, isBlit, isPolyline, isLine, draws, isTrigger, lengthOf, patternControlOf};
 
 // CMD, its flags by the manual's names; from_virtual and to_virtual are source and destination.
 pub struct Command {
@@ -33,6 +33,42 @@ pub fn command_of(word: u32) -> Command
         from_virtual: word / 65536 % 2 == 1,
         to_virtual: word / 32768 % 2 == 1,
     }
+}
+
+// The kinds of commands, by the opcode.
+impl Command {
+    pub fn is_blit(self) -> bool
+        ensures { λ r. ⌜ r ≡ isBlit self ⌝ }
+    {
+        self.opcode == 1
+    }
+
+    // Whether the command is a line that starts at the last point.
+    pub fn is_polyline(self) -> bool
+        ensures { λ r. ⌜ r ≡ isPolyline self ⌝ }
+    {
+        self.opcode == 5
+    }
+
+    pub fn is_line(self) -> bool
+        ensures { λ r. ⌜ r ≡ isLine self ⌝ }
+    {
+        (self.opcode == 2) | self.is_polyline()
+    }
+
+    // Whether the command draws: NOOP does not.
+    pub fn draws(self) -> bool
+        ensures { λ r. ⌜ r ≡ draws self ⌝ }
+    {
+        self.is_blit() | self.is_line()
+    }
+}
+
+// Whether writing a register triggers the command in CMD.
+pub fn is_trigger(register: u32) -> bool
+    ensures { λ r. ⌜ r ≡ isTrigger register ⌝ }
+{
+    register == 12
 }
 
 // PCTRL: the pattern's length in bits, how often each bit is repeated, and the place and repeat at which it starts.

@@ -1,6 +1,6 @@
 // Which entries are legal.
 ghost use mathlib.Core.Path.{_≡_};
-ghost use Rattle.entries.specs.Legality.{cmdLegal, pctrlLegal, dataLegal, entryLegal, legalAt, firstIllegal};
+ghost use Rattle.entries.specs.Legality.{cmdLegal, pctrlLegal, dataLegal, entryLegal, legalAt};
 use crate::decoding::Decoded;
 use crate::decoding::Entry;
 use crate::decoding::entry_at;
@@ -13,9 +13,7 @@ pub fn legal_cmd(word: u32) -> bool
     let c = command_of(word);
     let blit = !c.nlst & !c.prst & (!c.trnsp | (c.stpl | c.solid)) & (!c.key | !(c.stpl | c.solid));
     let line = !c.key & !c.from_virtual & (c.solid | c.stpl);
-    (word == 0)
-        | ((word % 32768 == 0)
-            & ((c.opcode == 1) & blit | ((c.opcode == 2) | (c.opcode == 5)) & line))
+    (word == 0) | ((word % 32768 == 0) & (c.is_blit() & blit | c.is_line() & line))
 }
 
 pub fn legal_pctrl(word: u32) -> bool
@@ -63,29 +61,5 @@ pub fn legal_at(list: &[u8], place: usize) -> bool
     match entry_at(list, place) {
         Decoded::Whole(e) => e.legal(),
         Decoded::Nothing => false,
-    }
-}
-
-// The place of a list's first illegal entry.
-pub enum Illegal {
-    At(usize),
-    Nowhere,
-}
-
-// The first of `count` entries from `start` on that is not legal.
-pub fn first_illegal(list: &[u8], start: usize, count: usize) -> Illegal
-    ensures { λ r. ⌜ r ≡ firstIllegal (now (list .entry)) start count ⌝ }
-{
-    let mut place = start;
-    let mut left = count;
-    loop {
-        if left == 0 {
-            break Illegal::Nowhere;
-        }
-        if !legal_at(list, place) {
-            break Illegal::At(place);
-        }
-        place += 1;
-        left -= 1;
     }
 }

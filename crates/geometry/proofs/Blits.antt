@@ -1,6 +1,6 @@
 -- The column and the row of a blit's visit, and what they do to a coordinate in whole numbers.
 -- Assumes nothing.
-use mathlib.Core.Path.{_≡_, ap₂, sym, _∙_}
+use mathlib.Core.Path.{_≡_, ap, ap₂, sym, _∙_}
 use mathlib.Core.Bool.{Bool, true, false}
 use Prim.Native.Nat.{ℕ, zero, suc, _+_, _-_, _*_, _/_, _%_, _≤_, _<_}
 use native.Mathlib.Nat.{mul-le-mul, zero-mul, mul-comm, mod-lt, div-lt-iff-lt-mul}
@@ -8,9 +8,10 @@ use native.Mathlib.Omega.{arith}
 use borrow.Author.Tests.{lt-ltb, le-ltb}
 use lib.IntN.{_+ℤ_, _-ℤ_}
 use Rattle.geometry.specs.Coordinates.{origin, wholeOf, signed16, coordinateOf, pointOf}
-use Rattle.geometry.specs.Blit.{widthOf, heightOf, blitCount, bottomToTop, rightToLeft, away, awayZ, blitPoint, blitVisit, NeverWraps}
+use Rattle.geometry.specs.Blit.{widthOf, heightOf, blitCount, bottomToTop, rightToLeft, columnOf, rowOf, blitCell, away, awayZ, blitPoint, cellVisit, NeverWraps}
 use Rattle.geometry.specs.declared.Point.{Point}
-use Rattle.geometry.specs.declared.Visit.the-variants.{At, Past}
+use Rattle.geometry.specs.declared.Cell.the-variants.{At as CellAt, Past as CellPast}
+use Rattle.geometry.specs.declared.Visit.the-variants.{At}
 use Rattle.geometry.proofs.Integers.{sub-same, sub-zero, sub-add, sub-sub}
 use Rattle.geometry.proofs.Whole.{signed}
 
@@ -48,12 +49,17 @@ never-wraps word size direction k hw hs l = (
       (omega (arith, row-lt (widthOf size) (heightOf size) k l)),
 )
 
--- a visit by the test that it passes
-module _ (corner : Point) (size direction k : ℕ) where
-  pub blit-past : blitCount size ≤ k → Past ≡ blitVisit corner size direction k
-  unfolding blitVisit
-  blit-past h = rw (le-ltb k (blitCount size) h)
+-- a visit's cell, by the test that it passes
+module _ (size k : ℕ) where
+  pub cell-past : blitCount size ≤ k → CellPast ≡ blitCell size k
+  unfolding blitCell
+  cell-past h = rw (le-ltb k (blitCount size) h)
 
-  pub blit-at : k < blitCount size → At (blitPoint corner size direction k) ≡ blitVisit corner size direction k
-  unfolding blitVisit
-  blit-at h = rw (lt-ltb k (blitCount size) h)
+  pub cell-at : k < blitCount size → CellAt (columnOf size k) (rowOf size k) ≡ blitCell size k
+  unfolding blitCell
+  cell-at h = rw (lt-ltb k (blitCount size) h)
+
+-- the pixel of a visit within the blit
+pub cell-visit : (corner : Point) (size direction k : ℕ) → k < blitCount size
+    → cellVisit corner direction (blitCell size k) ≡ At (blitPoint corner size direction k)
+cell-visit corner size direction k h = ap (cellVisit corner direction) (sym (cell-at size k h))

@@ -11,6 +11,7 @@ use lib.Dec.{leb, ltb}
 use Rattle.lemmas.proofs.Booleans.{by-cases, and-left, and-right}
 use Rattle.geometry.specs.Coordinates.{origin}
 use Rattle.geometry.specs.Clip.{inBuffer, placeOf, ReversedHoldsNothing, PlacesFit}
+use Rattle.geometry.specs.declared.Extent.{Extent}
 use Rattle.geometry.specs.declared.Point.{Point}
 use Rattle.geometry.specs.declared.Place.the-variants.{At, Outside}
 
@@ -44,31 +45,39 @@ pub area-fits : (width height x y : ℕ) → width < 2 ^ 32 → height < 2 ^ 32 
 area-fits width height x y hw hh h l = omega (arith, area width height x y h l, product-fits width height hw hh)
 
 -- a point's place by the tests that it passes
-module _ (width height : ℕ) (p : Point) where
-  outside : inBuffer width height p ≡ false → Outside ≡ placeOf width height p
+module _ (extent : Extent) (p : Point) where
+  abbrev width : ℕ
+  width = extent .width
+
+  abbrev height : ℕ
+  height = extent .height
+
+  outside : inBuffer width height p ≡ false → Outside ≡ placeOf extent p
   unfolding placeOf
   outside e = rw e
 
-  pub left-of : p .x < origin → Outside ≡ placeOf width height p
+  pub left-of : p .x < origin → Outside ≡ placeOf extent p
   left-of h = outside (rw (lt-leb origin (p .x) h))
 
-  pub above : p .y < origin → Outside ≡ placeOf width height p
+  pub above : p .y < origin → Outside ≡ placeOf extent p
   above h = outside (rw (lt-leb origin (p .y) h) (simp and-false))
 
-  pub right-of : width ≤ p .x - origin → Outside ≡ placeOf width height p
+  pub right-of : width ≤ p .x - origin → Outside ≡ placeOf extent p
   right-of h = outside (rw (le-ltb (p .x - origin) width h) (simp and-false))
 
-  pub under : height ≤ p .y - origin → Outside ≡ placeOf width height p
+  pub under : height ≤ p .y - origin → Outside ≡ placeOf extent p
   under h = outside (rw (le-ltb (p .y - origin) height h) (simp and-false))
 
   pub inside : origin ≤ p .x → origin ≤ p .y → p .x - origin < width → p .y - origin < height
-      → At ((p .y - origin) * width + (p .x - origin)) ≡ placeOf width height p
+      → At ((p .y - origin) * width + (p .x - origin)) ≡ placeOf extent p
   unfolding placeOf
   inside a b c d = rw (le-leb origin (p .x) a, le-leb origin (p .y) b, lt-ltb (p .x - origin) width c, lt-ltb (p .y - origin) height d)
 
 pub places-fit : PlacesFit
 unfolding placeOf
-places-fit width height p i e =
+places-fit extent p i e =
+    let width = extent .width in
+    let height = extent .height in
     by-cases (inBuffer width height p)
     (λ t.
     let found : At ((p .y - origin) * width + (p .x - origin)) ≡ At i = rw t at e in

@@ -1,7 +1,7 @@
 -- A window lets through what clip and buffer do.
 -- Assumes nothing.
 use mathlib.Core.Path.{_≡_, refl, sym, _∙_}
-use mathlib.Core.Bool.{Bool, true, false, not, cond, _&&_, false≢true}
+use mathlib.Core.Bool.{Bool, true, false, not, _&&_, false≢true}
 use Prim.Native.Nat.{ℕ, _+_, _-_, _≤_, _<_, min, max}
 use native.Mathlib.Omega.{arith}
 use borrow.Author.Tests.{leb-true, ltb-true, le-leb, lt-ltb}
@@ -82,14 +82,18 @@ twice-not false = refl
 
 pub window-lets-through : WindowLetsThrough
 unfolding windowOf
-window-lets-through width height false a b p =
+window-lets-through extent false a b p =
+    let width = extent .width in
+    let height = extent .height in
     let w : Window = record { left = origin; right = origin + width; top = origin; bottom = origin + height } in
     same-test (inWindow w p) (inBuffer width height p)
     (λ h. let s = shown-of w p h in buffer-by width height p (s .from-left) (s .from-top) (omega (arith, s .from-left, s .to-right)) (omega (arith, s .from-top, s .to-bottom)))
     (λ h.
     let t = buffer-of width height p h in
     shown-by w p (record { from-left = t .0; to-right = omega (arith, t .0, t .2); from-top = t .1; to-bottom = omega (arith, t .1, t .3) }))
-window-lets-through width height true a b p =
+window-lets-through extent true a b p =
+    let width = extent .width in
+    let height = extent .height in
     let r = rectOf a b in
     let w : Window =
     record { left = max origin (r .left); right = min (origin + width) (r .right + 1); top = max origin (r .top); bottom = min (origin + height) (r .bottom + 1) } in

@@ -6,6 +6,8 @@ use lib.Dec.{eqb, ltb}
 use lib.IntN.{ℤ, pos, _+ℤ_, _-ℤ_}
 use Rattle.geometry.specs.Coordinates.{wholeOf, signed16, pointOf}
 use Rattle.geometry.specs.declared.Point.{Point}
+use Rattle.geometry.specs.declared.Cell.{Cell}
+use Rattle.geometry.specs.declared.Cell.the-variants.{At as CellAt, Past as CellPast}
 use Rattle.geometry.specs.declared.Visit.{Visit}
 use Rattle.geometry.specs.declared.Visit.the-variants.{At, Past}
 
@@ -31,15 +33,27 @@ abbrev pub away : Bool → ℕ → ℕ → ℕ
 away back c k = cond back (c - k) (c + k)
 
 -- "in rows": visit k is at column k mod width of row k div width, both counted from the corner
-abbrev pub blitPoint : Point → ℕ → ℕ → ℕ → Point
-blitPoint corner size direction k =
-    record {
-      x = away (rightToLeft direction) (corner .x) (k % widthOf size);
-      y = away (bottomToTop direction) (corner .y) (k / widthOf size);
-    }
+abbrev pub columnOf : ℕ → ℕ → ℕ
+columnOf size k = k % widthOf size
 
-unfoldable pub blitVisit : Point → ℕ → ℕ → ℕ → Visit
-blitVisit corner size direction k = cond (ltb k (blitCount size)) (At (blitPoint corner size direction k)) Past
+abbrev pub rowOf : ℕ → ℕ → ℕ
+rowOf size k = k / widthOf size
+
+unfoldable pub blitCell : ℕ → ℕ → Cell
+blitCell size k = cond (ltb k (blitCount size)) (CellAt (columnOf size k) (rowOf size k)) CellPast
+
+-- The pixel of a cell, from a corner on; source and destination have the same cells.
+abbrev pub cellPoint : Point → ℕ → ℕ → ℕ → Point
+cellPoint corner direction column row =
+    record { x = away (rightToLeft direction) (corner .x) column; y = away (bottomToTop direction) (corner .y) row }
+
+abbrev pub cellVisit : Point → ℕ → Cell → Visit
+cellVisit corner direction (CellAt column row) = At (cellPoint corner direction column row)
+cellVisit corner direction CellPast = Past
+
+-- The pixel of visit k.
+abbrev pub blitPoint : Point → ℕ → ℕ → ℕ → Point
+blitPoint corner size direction k = cellPoint corner direction (columnOf size k) (rowOf size k)
 
 -- "Coordinates are plain whole numbers and never wrap": the same column and row are added to, or taken from, the signed
 -- coordinates of any corner; proved in proofs/Blits.antt.
@@ -50,6 +64,6 @@ abbrev pub NeverWraps : Type 0
 NeverWraps =
     (word size direction k : ℕ) → word < 4294967296 → size < 4294967296 → k < blitCount size
     → (wholeOf (blitPoint (pointOf word) size direction k .x)
-    ≡ awayZ (rightToLeft direction) (signed16 (word / 65536)) (k % widthOf size))
+    ≡ awayZ (rightToLeft direction) (signed16 (word / 65536)) (columnOf size k))
     × (wholeOf (blitPoint (pointOf word) size direction k .y)
-    ≡ awayZ (bottomToTop direction) (signed16 (word % 65536)) (k / widthOf size))
+    ≡ awayZ (bottomToTop direction) (signed16 (word % 65536)) (rowOf size k))

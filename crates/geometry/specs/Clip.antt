@@ -5,6 +5,7 @@ use mathlib.Core.Logic.{_⊎_}
 use Prim.Native.Nat.{ℕ, _+_, _-_, _*_, _<_, min, max}
 use lib.Dec.{leb, ltb}
 use Rattle.geometry.specs.Coordinates.{origin, pointOf}
+use Rattle.geometry.specs.declared.Extent.{Extent}
 use Rattle.geometry.specs.declared.Point.{Point}
 use Rattle.geometry.specs.declared.Rect.{Rect}
 use Rattle.geometry.specs.declared.Window.{Window}
@@ -33,20 +34,20 @@ inBuffer width height p = leb origin (p .x) && leb origin (p .y) && ltb (p .x - 
 abbrev pub placeIn : ℕ → Point → ℕ
 placeIn width p = (p .y - origin) * width + (p .x - origin)
 
-unfoldable pub placeOf : ℕ → ℕ → Point → Place
-placeOf width height p = cond (inBuffer width height p) (At (placeIn width p)) Outside
+unfoldable pub placeOf : Extent → Point → Place
+placeOf extent p = cond (inBuffer (extent .width) (extent .height) p) (At (placeIn (extent .width) p)) Outside
 
 -- What clip and buffer let through, as one window: left <= x < right and top <= y < bottom.
-unfoldable pub windowOf : ℕ → ℕ → Bool → ℕ → ℕ → Window
-windowOf width height clip topLeft bottomRight =
+unfoldable pub windowOf : Extent → Bool → ℕ → ℕ → Window
+windowOf extent clip topLeft bottomRight =
     cond clip
     (record {
       left = max origin (rectOf topLeft bottomRight .left);
-      right = min (origin + width) (rectOf topLeft bottomRight .right + 1);
+      right = min (origin + extent .width) (rectOf topLeft bottomRight .right + 1);
       top = max origin (rectOf topLeft bottomRight .top);
-      bottom = min (origin + height) (rectOf topLeft bottomRight .bottom + 1);
+      bottom = min (origin + extent .height) (rectOf topLeft bottomRight .bottom + 1);
     })
-    (record { left = origin; right = origin + width; top = origin; bottom = origin + height })
+    (record { left = origin; right = origin + extent .width; top = origin; bottom = origin + extent .height })
 
 abbrev pub inWindow : Window → Point → Bool
 inWindow w p = leb (w .left) (p .x) && ltb (p .x) (w .right) && leb (w .top) (p .y) && ltb (p .y) (w .bottom)
@@ -54,13 +55,13 @@ inWindow w p = leb (w .left) (p .x) && ltb (p .x) (w .right) && leb (w .top) (p 
 -- That a window lets through what clip and buffer do; proved in proofs/Windows.antt.
 abbrev pub WindowLetsThrough : Type 0
 WindowLetsThrough =
-    (width height : ℕ) (clip : Bool) (topLeft bottomRight : ℕ) (p : Point)
-    → inWindow (windowOf width height clip topLeft bottomRight) p
-    ≡ (not (clip && not (inRect (rectOf topLeft bottomRight) p)) && inBuffer width height p)
+    (extent : Extent) (clip : Bool) (topLeft bottomRight : ℕ) (p : Point)
+    → inWindow (windowOf extent clip topLeft bottomRight) p
+    ≡ (not (clip && not (inRect (rectOf topLeft bottomRight) p)) && inBuffer (extent .width) (extent .height) p)
 
 -- "A reversed clip draws nothing", and a place lies in its buffer; proved in proofs/Clips.antt.
 abbrev pub ReversedHoldsNothing : Type 0
 ReversedHoldsNothing = (r : Rect) → (r .right < r .left) ⊎ (r .bottom < r .top) → (p : Point) → inRect r p ≡ false
 
 abbrev pub PlacesFit : Type 0
-PlacesFit = (width height : ℕ) (p : Point) (i : ℕ) → placeOf width height p ≡ At i → i < width * height
+PlacesFit = (extent : Extent) (p : Point) (i : ℕ) → placeOf extent p ≡ At i → i < extent .width * extent .height

@@ -5,8 +5,8 @@ ghost use Prim.Native.Nat.{_<_, _≤_, min, max};
 ghost use lib.Dec.{eqb};
 ghost use Rattle.geometry.specs.Coordinates.{coordinateOf, pointOf};
 ghost use Rattle.geometry.specs.Clip.{rectOf, inRect, windowOf, placeOf};
-ghost use Rattle.geometry.specs.Line.{distance, stepsOf, xMajor, lineCount, nearestOf, lineVisit};
-ghost use Rattle.geometry.specs.Blit.{blitCount, away, blitVisit};
+ghost use Rattle.geometry.specs.Line.{distance, stepsOf, lineCount, nearestOf, lineVisit};
+ghost use Rattle.geometry.specs.Blit.{blitCount, blitCell, away, cellVisit};
 
 // Coordinates are held 98,304 up: this is the coordinate 0.
 pub const ORIGIN: usize = 98304;
@@ -14,6 +14,12 @@ pub const ORIGIN: usize = 98304;
 pub struct Point {
     pub x: usize,
     pub y: usize,
+}
+
+// The size of a picture buffer, in pixels.
+pub struct Extent {
+    pub width: u32,
+    pub height: u32,
 }
 
 fn coordinate(half: u32) -> usize
@@ -71,12 +77,12 @@ pub struct Window {
     pub bottom: usize,
 }
 
-// The window of a buffer of width x height pixels, and of the clip rectangle where `clip` is set.
-pub fn window_of(width: u32, height: u32, clip: bool, top_left: u32, bottom_right: u32) -> Window
-    ensures { λ r. ⌜ r ≡ windowOf width height clip «top_left» «bottom_right» ⌝ }
+// The window of a buffer, and of the clip rectangle where `clip` is set.
+pub fn window_of(extent: Extent, clip: bool, top_left: u32, bottom_right: u32) -> Window
+    ensures { λ r. ⌜ r ≡ windowOf extent clip «top_left» «bottom_right» ⌝ }
 {
-    let right = ORIGIN + width as usize;
-    let bottom = ORIGIN + height as usize;
+    let right = ORIGIN + extent.width as usize;
+    let bottom = ORIGIN + extent.height as usize;
     if clip {
         let c = rect_of(top_left, bottom_right);
         return Window {
@@ -100,9 +106,9 @@ pub enum Place {
     Outside,
 }
 
-// The place of a point in a buffer of width x height pixels.
-pub fn place_of(width: u32, height: u32, p: Point) -> Place
-    ensures { λ r. ⌜ r ≡ placeOf width height p ⌝ }
+// The place of a point in a buffer.
+pub fn place_of(extent: Extent, p: Point) -> Place
+    ensures { λ r. ⌜ r ≡ placeOf extent p ⌝ }
 {
     if p.x < ORIGIN {
         return Place::Outside;
@@ -112,13 +118,13 @@ pub fn place_of(width: u32, height: u32, p: Point) -> Place
     }
     let x = p.x - ORIGIN;
     let y = p.y - ORIGIN;
-    if width as usize <= x {
+    if extent.width as usize <= x {
         return Place::Outside;
     }
-    if height as usize <= y {
+    if extent.height as usize <= y {
         return Place::Outside;
     }
-    Place::At(y * (width as usize) + x)
+    Place::At(y * (extent.width as usize) + x)
 }
 
 // Where visit k of a command lies.
@@ -128,7 +134,7 @@ pub enum Visit {
     Past,
 }
 
-fn span(a: usize, b: usize) -> usize
+fn distance_of(a: usize, b: usize) -> usize
     ensures { λ r. ⌜ r ≡ distance a b ⌝ }
 {
     if a <= b { b - a } else { a - b }
@@ -152,16 +158,7 @@ pub fn line_steps(from: u32, to: u32) -> usize
 {
     let a = point_of(from);
     let b = point_of(to);
-    larger(span(a.x, b.x), span(a.y, b.y))
-}
-
-// Whether x is a line's major axis.
-pub fn x_major(from: u32, to: u32) -> bool
-    ensures { λ r. ⌜ r ≡ xMajor (pointOf from) (pointOf to) ⌝ }
-{
-    let a = point_of(from);
-    let b = point_of(to);
-    span(a.y, b.y) <= span(a.x, b.x)
+    larger(distance_of(a.x, b.x), distance_of(a.y, b.y))
 }
 
 // The pixels that a line visits; skip_last is NLST.
@@ -213,24 +210,44 @@ pub fn blit_count(size: u32) -> usize
     ((size / 65536) as usize) * ((size % 65536) as usize)
 }
 
-// The coordinate k pixels from c, up or back.
-fn moved(back: bool, c: usize, k: usize) -> usize
-    requires { ⌜ (k ≤ c) × (c < 131072) × (k < 65536) ⌝ }
-    ensures { λ r. ⌜ r ≡ away back c k ⌝ }
-{
-    if back { c - k } else { c + k }
+// Where a visit lies in the rectangle of a blit: column and row, counted from the corner.
+pub enum Cell {
+    At(u32, u32),
+    // The blit has no such visit.
+    Past,
 }
 
-// Where visit k of a blit lies that starts at a corner, of the source rectangle or of the destination rectangle.
-pub fn blit_visit(corner: u32, size: u32, direction: u32, k: usize) -> Visit
-    ensures { λ r. ⌜ r ≡ blitVisit (pointOf corner) size direction k ⌝ }
+// The cell of visit k of a blit.
+pub fn blit_cell(size: u32, k: usize) -> Cell
+    ensures { λ r. ⌜ r ≡ blitCell size k ⌝ }
 {
     if blit_count(size) <= k {
-        return Visit::Past;
+        return Cell::Past;
     }
     let width = (size / 65536) as usize;
     let column = k % width;
     let row = k / width;
+    Cell::At(column as u32, row as u32)
+}
+
+// The coordinate k pixels from c, up or back, which stops at 0.
+fn moved(back: bool, c: usize, k: u32) -> usize
+    requires { ⌜ c < 131072 ⌝ }
+    ensures { λ r. ⌜ r ≡ away back c k ⌝ }
+{
+    if !back {
+        return c + k as usize;
+    }
+    if c <= k as usize { 0 } else { c - k as usize }
+}
+
+// The pixel of a cell, from the corner of the source rectangle or of the destination rectangle.
+pub fn cell_visit(corner: u32, direction: u32, cell: Cell) -> Visit
+    ensures { λ r. ⌜ r ≡ cellVisit (pointOf corner) direction cell ⌝ }
+{
+    let Cell::At(column, row) = cell else {
+        return Visit::Past;
+    };
     let c = point_of(corner);
     let x = moved(direction / 2 % 2 == 1, c.x, column);
     let y = moved(direction % 2 == 1, c.y, row);

@@ -9,11 +9,11 @@ point-of-requires c κs = search needs
 point-of-requires-2 : tie.Need-point-of-requires-2
 point-of-requires-2 c κs = search needs
 
-span-requires : tie.Need-span-requires
-span-requires c κs = search needs
+distance-of-requires : tie.Need-distance-of-requires
+distance-of-requires c κs = search needs
 
-span-requires-2 : tie.Need-span-requires-2
-span-requires-2 c κs = search needs
+distance-of-requires-2 : tie.Need-distance-of-requires-2
+distance-of-requires-2 c κs = search needs
 
 larger-requires : tie.Need-larger-requires
 larger-requires c κs = search needs
@@ -21,7 +21,7 @@ larger-requires c κs = search needs
 returns : tie.Need-returns
 returns c =
     let ends = c .before .before .before in
-    c .larger .ensures ∙ rw (c .before .before .span .ensures, c .before .span2 .ensures, ends .before .point-of .ensures, ends .point-of2 .ensures)
+    c .larger .ensures ∙ rw (c .before .before .distance-of .ensures, c .before .distance-of2 .ensures, ends .before .point-of .ensures, ends .point-of2 .ensures)
 
 pub line-steps-spec : {M : Type 1} → statement M
 line-steps-spec =
@@ -29,7 +29,7 @@ line-steps-spec =
     (tie.spec
     point-of-requires
     point-of-requires-2
-    span-requires
-    span-requires-2
+    distance-of-requires
+    distance-of-requires-2
     larger-requires
     returns)

@@ -1,12 +1,18 @@
 use borrow.Author.Needs.{needs}
 use native.Mathlib.Omega.{arith}
-use Rattle.geometry.specs.Clip.{rectOf, windowOf}
+use Rattle.geometry.specs.Clip.{windowOf}
 use Rattle.geometry.proofs.Windows.{right-most, bottom-most}
 use Rattle.geometry.proofs.window_of.Statement.{statement}
 use Rattle.geometry.proofs.window_of.Tie as tie
 
+cast-right : tie.Need-cast-right
+cast-right c = search needs
+
 add-right : tie.Need-add-right
 add-right c = search needs
+
+cast-bottom : tie.Need-cast-bottom
+cast-bottom c = search needs
 
 add-bottom : tie.Need-add-bottom
 add-bottom c = search needs
@@ -20,7 +26,7 @@ larger-requires c κs = search needs
 add-smaller : tie.Need-add-smaller
 add-smaller c =
     let cut = c .before .before in
-    let s = cut .before .before .args in
+    let s = cut .before .before .before .before .args in
     rw (cut .rect-of .ensures) (omega (arith, right-most (s .top-left) (s .bottom-right)))
 
 smaller-requires : tie.Need-smaller-requires
@@ -32,7 +38,7 @@ larger-requires-2 c κs = search needs
 add-smaller-2 : tie.Need-add-smaller-2
 add-smaller-2 c =
     let cut = c .before .before .before .before .before in
-    let s = cut .before .before .args in
+    let s = cut .before .before .before .before .args in
     rw (cut .rect-of .ensures) (omega (arith, bottom-most (s .top-left) (s .bottom-right)))
 
 smaller-requires-2 : tie.Need-smaller-requires-2
@@ -61,7 +67,9 @@ pub window-of-spec : {M : Type 1} → statement M
 window-of-spec =
     tie.close
     (tie.spec
+    cast-right
     add-right
+    cast-bottom
     add-bottom
     rect-of-requires
     larger-requires

@@ -1,18 +1,28 @@
+-- The loop's invariant: what is found from `place` on among `left` entries is what is found in the whole list. The measure is
+-- `left`; `place` does not wrap, as a legal entry lies in memory.
 use mathlib.Core.Path.{_≡_, refl, sym, _∙_}
 use mathlib.Core.Bool.{true}
 use native.Mathlib.Omega.{arith}
 use borrow.Author.Needs.{needs}
 use borrow.Author.Tests.{not-true, not-false}
-use Rattle.entries.specs.Legality.{legalAt, firstIllegal}
-use Rattle.entries.proofs.Finds.{first-none, first-here, first-next, legal-inside}
-use Rattle.entries.proofs.legality.first_illegal.Statement.{statement}
-use Rattle.entries.proofs.legality.first_illegal.Tie as tie
+use Rattle.entries.specs.Legality.{legalAt}
+use Rattle.entries.proofs.Finds.{legal-inside}
+use Rattle.lists.specs.Spans.{illegalFrom}
+use Rattle.lists.proofs.Finds.{first-none, first-here, first-next}
+use Rattle.lists.proofs.spans.first_illegal.Statement.{statement}
+use Rattle.lists.proofs.spans.first_illegal.Tie as tie
 
 abbrev Inv-loop : tie.InvT-loop
-Inv-loop list start count place₀ left₀ place left = firstIllegal list start count ≡ firstIllegal list place left
+Inv-loop list place₀ left₀ place left = illegalFrom list place₀ left₀ ≡ illegalFrom list place left
 
 abbrev μ-loop : tie.MeasureT-loop
-μ-loop list start count place₀ left₀ place left = left
+μ-loop list place₀ left₀ place left = left
+
+cast-place : tie.Need-cast-place Inv-loop μ-loop
+cast-place c = search needs
+
+cast-left : tie.Need-cast-left Inv-loop μ-loop
+cast-left c = search needs
 
 loop-holds : tie.Need-loop-holds Inv-loop μ-loop
 loop-holds c = refl
@@ -20,14 +30,12 @@ loop-holds c = refl
 legal-at-requires : tie.Need-legal-at-requires Inv-loop μ-loop
 legal-at-requires c κs = search needs
 
-legal : (c : tie.Else2 Inv-loop μ-loop) → legalAt (c .before .before .before .before .before .args .list .now) (c .before .before .before .loop .place) ≡ true
+legal : (c : tie.Else2 Inv-loop μ-loop)
+    → legalAt (c .before .before .before .before .before .before .before .args .list .now) (c .before .before .before .loop .place) ≡ true
 legal c = sym (c .before .legal-at .ensures) ∙ not-false _ (c .if2 .left)
 
 add-place : tie.Need-add-place Inv-loop μ-loop
 add-place c = omega (arith, legal-inside _ _ (legal c))
-
-sub-left : tie.Need-sub-left Inv-loop μ-loop
-sub-left c = search needs
 
 loop-less : tie.Need-loop-less Inv-loop μ-loop
 loop-less c = search needs
@@ -36,7 +44,7 @@ loop-again : tie.Need-loop-again Inv-loop μ-loop
 loop-again c = c .before .before .before .loop .inv ∙ first-next _ _ _ _ (omega arith) (legal c)
 
 returns : tie.Need-returns Inv-loop μ-loop
-returns c = sym (c .before .loop .inv ∙ first-none _ _ _ (c .if1 .taken))
+returns c = sym (c .before .loop .inv ∙ first-none _ _ _ (omega arith))
 
 returns-2 : tie.Need-returns-2 Inv-loop μ-loop
 returns-2 c =
@@ -48,10 +56,11 @@ first-illegal-spec =
     (tie.spec
     Inv-loop
     μ-loop
+    cast-place
+    cast-left
     loop-holds
     legal-at-requires
     add-place
-    sub-left
     loop-less
     loop-again
     returns

@@ -1,0 +1,39 @@
+-- A memory after bytes were put into it: its length, and the bytes before and after them.
+-- Assumes nothing.
+use mathlib.Core.Path.{_≡_, ap, _∙_}
+use mathlib.Core.List.{List, _++_}
+use Prim.Native.Nat.{ℕ, _+_, _-_, _≤_, _<_}
+use native.Mathlib.Omega.{arith}
+use lib.ListN.{length, getD, take, drop, length-append, length-drop, List·getD-append}
+use lib.Seq.{getD-append-add, getD-take, getD-drop, length-take-le}
+use Rattle.lemmas.specs.Memory.{putInto}
+
+-- before and after the bytes that were put
+module _ (l : List ℕ) (at : ℕ) (bytes : List ℕ) (h : at + length bytes ≤ length l) where
+  head-long : length (take at l) ≡ at
+  head-long = length-take-le at l (omega arith)
+
+  front-long : length (take at l ++ bytes) ≡ at + length bytes
+  front-long = length-append (take at l) bytes ∙ ap (λ n. n + length bytes) head-long
+
+  pub put-before : (i : ℕ) → i < at → getD (putInto l at bytes) i 0 ≡ getD l i 0
+  unfolding putInto
+  put-before i k =
+      List·getD-append (take at l ++ bytes) (drop (at + length bytes) l) 0 i (omega (arith, front-long))
+      ∙ List·getD-append (take at l) bytes 0 i (omega (arith, head-long)) ∙ getD-take at l i 0 k
+
+  pub put-after : (i : ℕ) → at + length bytes ≤ i → getD (putInto l at bytes) i 0 ≡ getD l i 0
+  unfolding putInto
+  put-after i k =
+      let j = i - (at + length bytes) in
+      let split : i ≡ length (take at l ++ bytes) + j = omega (arith, front-long) in
+      let whole : at + length bytes + j ≡ i = omega arith in
+      ap (λ i. getD (take at l ++ bytes ++ drop (at + length bytes) l) i 0) split
+      ∙ getD-append-add (take at l ++ bytes) (drop (at + length bytes) l) j 0 ∙ getD-drop (at + length bytes) l j 0
+      ∙ ap (λ i. getD l i 0) whole
+
+  pub put-length : length (putInto l at bytes) ≡ length l
+  unfolding putInto
+  put-length =
+      length-append (take at l ++ bytes) (drop (at + length bytes) l)
+      ∙ omega (arith, front-long, length-drop (at + length bytes) l)

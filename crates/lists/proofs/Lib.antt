@@ -1,0 +1,4 @@
+pub mod Finds
+pub mod Rests
+pub mod Fetches
+pub mod Held

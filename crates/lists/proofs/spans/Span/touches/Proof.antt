@@ -1,0 +1,21 @@
+use borrow.Author.Needs.{needs}
+use Rattle.lists.proofs.Held.{touch-by-gap}
+use Rattle.lists.proofs.spans.Span.touches.Statement.{statement}
+use Rattle.lists.proofs.spans.Span.touches.Tie as tie
+
+end-requires : tie.Need-end-requires
+end-requires c κs = search needs
+
+cast-less : tie.Need-cast-less
+cast-less c = search needs
+
+less-requires : tie.Need-less-requires
+less-requires c κs = search needs
+
+returns : tie.Need-returns
+returns c =
+    let s = c .before .before .before .args in
+    rw (c .before .before .end .ensures, c .less .ensures) (touch-by-gap (s .self) (s .first) (s .n))
+
+pub touches-spec : {M : Type 1} → statement M
+touches-spec = tie.close (tie.spec end-requires cast-less less-requires returns)

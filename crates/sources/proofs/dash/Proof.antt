@@ -1,0 +1,22 @@
+use borrow.Author.Needs.{needs}
+use mathlib.Core.Path.{ap, _∙_}
+use Rattle.sources.specs.Sources.{byBit, dashOf}
+use Rattle.sources.proofs.dash.Statement.{statement}
+use Rattle.sources.proofs.dash.Tie as tie
+use Rattle.sources.proofs.dash.Reads as reads
+use Rattle.sources.proofs.dash.Lts as lts
+use Rattle.registers.proofs.dashes.Pattern.bit.Reads as bit-reads
+use Rattle.sources.proofs.by_bit.Reads as by-bit-reads
+
+bit-requires : tie.Need-bit-requires
+bit-requires c κs = search needs
+
+by-bit-requires : tie.Need-by-bit-requires
+by-bit-requires c κs = search needs
+
+returns : tie.Need-returns
+unfolding dashOf
+returns c = let s = c .before .before .args in c .by-bit .ensures ∙ ap (byBit (s .c) (s .g)) (c .before .bit .ensures)
+
+pub dash-spec : {M : Type 1} → statement M
+dash-spec = tie.close (tie.spec bit-requires by-bit-requires returns)
