@@ -57,16 +57,13 @@ fn a_line_is_drawn() {
 }
 
 #[test]
-fn the_list_of_the_paper_twice() {
+fn slots_and_entries_are_held() {
     let mut bench = Bench::new();
     assert_eq!(bench.post(0, 4), DONE);
     assert_eq!(bench.post(0, 4), DONE);
     assert_eq!(bench.post(0, 4), Answer::SlotsTaken);
-    assert_eq!(bench.run(9).steps(), 9);
-    assert_eq!(bench.run(3).steps(), 3);
-    assert_eq!(bench.store(0, &LINE), Answer::EntryHeld);
-    assert_eq!(bench.run(100).steps(), 6);
-    assert_eq!(bench.store(0, &LINE), DONE);
+    assert_eq!(bench.store(3, &LINE), Answer::EntryHeld);
+    assert_eq!(bench.store(4, &LINE), DONE);
 }
 
 #[test]
