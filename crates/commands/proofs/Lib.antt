@@ -1,7 +1,8 @@
 pub mod Tests
-pub mod Bits
 pub mod Marks
 pub mod Bounds
 pub mod Triggers
-pub mod Visits
+pub mod Visiting
+pub mod Sound
+pub mod Counts
 pub mod Examples

@@ -7,18 +7,20 @@ use Prim.Native.Nat.{ℕ, _≤_}
 use lib.ListN.{length, getD, set}
 use lib.Seq.{set-out}
 use Rattle.raster.specs.Raster.{newByte}
+use Rattle.geometry.specs.declared.Cell.{Cell}
+use Rattle.geometry.specs.declared.Extent.{Extent}
 use Rattle.geometry.specs.declared.Place.{Place}
 use Rattle.geometry.specs.declared.Place.the-variants.{At}
 use Rattle.entries.specs.Fields.{patternControlOf}
 use Rattle.entries.specs.declared.fields.Command.{Command}
 use Rattle.registers.specs.Patterns.{nextOf}
-use Rattle.commands.specs.Visits.{commandIn, targetOf}
-use Rattle.commands.specs.Sources.{sourceOf}
+use Rattle.sources.specs.Sources.{sourceOf}
+use Rattle.sources.specs.declared.Source.{Source}
+use Rattle.sources.specs.declared.Source.the-variants.{Value, Nothing}
+use Rattle.commands.specs.Visits.{commandIn, cellAt, targetFrom, targetOf, sourceAt}
 use Rattle.commands.specs.Steps.{scene, inked, inkedAt, inDashes, patternAfter, advancedOf, visitOf}
 use Rattle.commands.proofs.Tests.{flag-is}
 use Rattle.commands.specs.declared.Engine.{Engine}
-use Rattle.commands.specs.declared.Source.{Source}
-use Rattle.commands.specs.declared.Source.the-variants.{Value, Nothing}
 
 module _ (e : Engine) (l : List ℕ) where
   pub ink-nothing : (s : Source) (q : Place) → s ≡ Nothing → l ≡ inked e s q l
@@ -41,21 +43,30 @@ unfolding patternAfter
 pattern-by e b h = rw h
 
 -- a visit, by the buffer that it draws on
-module _ (width height : ℕ) (e : Engine) (d v m : List ℕ) (c : Command) (q : Place) (s : Source) (a : Engine) (p : c ≡ commandIn e)
-    (at : q ≡ targetOf e width height (e .visited)) (from : s ≡ sourceOf e width height (e .visited) d v) (after : a ≡ advancedOf e) where
-  -- the drawn buffer, from the place and the source that were found
+module _ (extent : Extent) (e : Engine) (d v m : List ℕ) (c : Command) (cell : Cell) (q : Place) (s : Source) (a : Engine) (p : c ≡ commandIn e)
+    (shared : cell ≡ cellAt extent e (e .visited)) (at : q ≡ targetFrom extent e (e .visited) cell)
+    (from : s ≡ sourceOf c (e .registers) (e .pattern) extent cell d v) (after : a ≡ advancedOf extent e) where
+  -- the drawn buffer, from the place and the source that were found at the one cell
   drawn-is : (l : List ℕ) → m ≡ inked e s q l
-      → m ≡ inked e (sourceOf e width height (e .visited) d v) (targetOf e width height (e .visited)) l
-  drawn-is l k = k ∙ ap₂ (λ s q. inked e s q l) from at
+      → m ≡ inked e (sourceAt extent e (e .visited) d v) (targetOf extent e (e .visited)) l
+  drawn-is l k =
+      k ∙ ap₂ (λ s q. inked e s q l) from at
+      ∙ ap₂ (λ c cell. inked e (sourceOf c (e .registers) (e .pattern) extent cell d v) (targetFrom extent e (e .visited) cell) l) p shared
 
-  pub visit-virtual : c .«to_virtual» ≡ true → m ≡ inked e s q v → scene a d m ≡ visitOf width height (scene e d v)
+  pub visit-virtual : c .«to_virtual» ≡ true → m ≡ inked e s q v → scene a d m ≡ visitOf extent (scene e d v)
   unfolding visitOf
   visit-virtual h k =
-      rw (flag-is e c p (λ c. c .«to_virtual») true h)
-      (λ i. record { engine = after i; display = d; virt = drawn-is v k i })
+      let place = targetOf extent e (e .visited) in
+      let source = sourceAt extent e (e .visited) d v in
+      (λ i. scene (after i) d (drawn-is v k i))
+      ∙ ap (λ t. scene (advancedOf extent e) (cond t d (inked e source place d)) (cond t (inked e source place v) v))
+      (sym (flag-is e c p (λ c. c .«to_virtual») true h))
 
-  pub visit-display : c .«to_virtual» ≡ false → m ≡ inked e s q d → scene a m v ≡ visitOf width height (scene e d v)
+  pub visit-display : c .«to_virtual» ≡ false → m ≡ inked e s q d → scene a m v ≡ visitOf extent (scene e d v)
   unfolding visitOf
   visit-display h k =
-      rw (flag-is e c p (λ c. c .«to_virtual») false h)
-      (λ i. record { engine = after i; display = drawn-is d k i; virt = v })
+      let place = targetOf extent e (e .visited) in
+      let source = sourceAt extent e (e .visited) d v in
+      (λ i. scene (after i) (drawn-is d k i) v)
+      ∙ ap (λ t. scene (advancedOf extent e) (cond t d (inked e source place d)) (cond t (inked e source place v) v))
+      (sym (flag-is e c p (λ c. c .«to_virtual») false h))

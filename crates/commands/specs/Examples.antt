@@ -4,8 +4,13 @@ use mathlib.Core.Path.{_≡_}
 use mathlib.Core.Bool.{true, false}
 use mathlib.Core.List.{List, [], _∷_}
 use Prim.Native.Nat.{ℕ}
+use Rattle.geometry.specs.declared.Extent.{Extent}
 use Rattle.commands.specs.Steps.{Scene, scene, visitsOf}
 use Rattle.commands.specs.declared.Engine.{Engine}
+
+-- Buffers of one row.
+abbrev pub rowOf : ℕ → Extent
+rowOf width = record { width = width; height = 1 }
 
 -- BITBLT of 4 x 1 pixels, from the corner XY0 to the corner XY1
 abbrev pub blitting : ℕ → ℕ → ℕ → ℕ → Engine
@@ -37,7 +42,7 @@ abbrev pub row : List ℕ
 row = 1 ∷ 2 ∷ 3 ∷ 4 ∷ 5 ∷ 0 ∷ []
 
 abbrev pub copied : Engine → List ℕ
-copied e = visitsOf 4 6 1 (scene e row (0 ∷ 0 ∷ 0 ∷ 0 ∷ 0 ∷ 0 ∷ [])) .display
+copied e = visitsOf 4 (rowOf 6) (scene e row (0 ∷ 0 ∷ 0 ∷ 0 ∷ 0 ∷ 0 ∷ [])) .display
 
 abbrev pub P9 : Type 0
 P9 = copied (blitting 0x1300_0000 0x0000_0000 0x0001_0000 0) ≡ (1 ∷ 1 ∷ 1 ∷ 1 ∷ 1 ∷ 0 ∷ [])
@@ -75,7 +80,7 @@ abbrev pub blank : List ℕ
 blank = 0 ∷ 0 ∷ 0 ∷ 0 ∷ 0 ∷ 0 ∷ 0 ∷ 0 ∷ []
 
 abbrev pub dashed : ℕ → ℕ → Scene
-dashed cmd visits = visitsOf visits 8 1 (scene (dashing cmd) blank blank)
+dashed cmd visits = visitsOf visits (rowOf 8) (scene (dashing cmd) blank blank)
 
 -- The line enters the clip in the middle of a dash: one pixel of it is left. Eight pixels move the pattern eight times.
 abbrev pub EntersInADash : Type 0
@@ -104,7 +109,7 @@ abbrev pub bits : List ℕ
 bits = 0x42 ∷ 0xC0 ∷ 0 ∷ 0x02 ∷ []
 
 abbrev pub stippled : Engine → List ℕ
-stippled e = visitsOf 4 4 1 (scene e (0x80 ∷ 2 ∷ 3 ∷ 4 ∷ []) bits) .display
+stippled e = visitsOf 4 (rowOf 4) (scene e (0x80 ∷ 2 ∷ 3 ∷ 4 ∷ []) bits) .display
 
 -- Bits 6 to 9 of the row, 1 0 1 1, lie in two bytes: a 1 draws FORE, a 0 draws BACK, or nothing with TRNSP.
 abbrev pub Opaque : Type 0

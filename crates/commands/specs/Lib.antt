@@ -1,4 +1,5 @@
 pub mod Visits
-pub mod Sources
 pub mod Steps
+pub mod Record
+pub mod Wholes
 pub mod Examples

@@ -6,19 +6,19 @@ use Prim.Native.Nat.{ℕ, zero, suc, _+_}
 use lib.Dec.{eqb, ltb}
 use lib.ListN.{length, getD, set}
 use Rattle.raster.specs.Raster.{newByte}
+use Rattle.geometry.specs.declared.Extent.{Extent}
 use Rattle.geometry.specs.declared.Place.{Place}
 use Rattle.geometry.specs.declared.Place.the-variants.{At, Outside}
-use Rattle.entries.specs.Fields.{patternControlOf}
+use Rattle.entries.specs.Fields.{patternControlOf, isLine, isTrigger, triggers}
 use Rattle.entries.specs.declared.fields.Command.{Command}
 use Rattle.entries.specs.declared.decoding.Entry.{Entry}
 use Rattle.registers.specs.Registers.{freshRegisters, writtenOf}
 use Rattle.registers.specs.Patterns.{startOf, nextOf, movesOf}
 use Rattle.registers.specs.declared.dashes.Pattern.{Pattern}
-use Rattle.commands.specs.Visits.{commandIn, isBlit, isLine, countOf, targetOf}
-use Rattle.commands.specs.Sources.{sourceOf}
+use Rattle.sources.specs.declared.Source.{Source}
+use Rattle.sources.specs.declared.Source.the-variants.{Value, Nothing}
+use Rattle.commands.specs.Visits.{commandIn, countOf, targetOf, sourceAt}
 use Rattle.commands.specs.declared.Engine.{Engine}
-use Rattle.commands.specs.declared.Source.{Source}
-use Rattle.commands.specs.declared.Source.the-variants.{Value, Nothing}
 
 -- An engine with its two picture buffers.
 pub record Scene : Type 0 where
@@ -59,9 +59,9 @@ patternAfter e = cond (inDashes (commandIn e)) (nextOf (patternControlOf (e .reg
 
 -- One pixel fewer to visit; "the last point is XY1 of the latest finished command: it is set in the step that visits the
 -- command's last pixel".
-unfoldable pub advancedOf : Engine → Engine
-advancedOf e =
-    cond (ltb (e .visited + 1) (countOf e))
+unfoldable pub advancedOf : Extent → Engine → Engine
+advancedOf extent e =
+    cond (ltb (e .visited + 1) (countOf extent e))
     (record {
       «under_way» = true;
       visited = e .visited + 1;
@@ -77,34 +77,33 @@ advancedOf e =
       last = e .registers .xy1;
     })
 
--- One pixel visited, on buffers of width x height.
-unfoldable pub visitOf : ℕ → ℕ → Scene → Scene
-visitOf width height s =
+-- One pixel visited.
+unfoldable pub visitOf : Extent → Scene → Scene
+visitOf extent s =
     let e = s .engine in
-    let place = targetOf e width height (e .visited) in
-    let source = sourceOf e width height (e .visited) (s .display) (s .virt) in
+    let place = targetOf extent e (e .visited) in
+    let source = sourceAt extent e (e .visited) (s .display) (s .virt) in
     record {
-      engine = advancedOf e;
+      engine = advancedOf extent e;
       display = cond (commandIn e .«to_virtual») (s .display) (inked e source place (s .display));
       virt = cond (commandIn e .«to_virtual») (inked e source place (s .virt)) (s .virt);
     }
 
 -- n pixels visited, one after the other.
-unfoldable pub visitsOf : ℕ → ℕ → ℕ → Scene → Scene
-visitsOf zero width height s = s
-visitsOf (suc n) width height s = visitOf width height (visitsOf n width height s)
+unfoldable pub visitsOf : ℕ → Extent → Scene → Scene
+visitsOf zero extent s = s
+visitsOf (suc n) extent s = visitOf extent (visitsOf n extent s)
 
 -- The pattern state that an entry leaves: "SPTR and SSCL on writing PCTRL, and at a line's trigger with PRST".
 abbrev pub setsPattern : ℕ → Engine → Bool
-setsPattern number e = eqb number 6 || (eqb number 12 && isLine (commandIn e) && commandIn e .prst)
+setsPattern number e = eqb number 6 || (isTrigger number && isLine (commandIn e) && commandIn e .prst)
 
 abbrev pub patternSet : ℕ → Engine → Pattern
 patternSet number e = cond (setsPattern number e) (startOf (patternControlOf (e .registers .pctrl))) (e .pattern)
 
--- "XY1 triggers the command in CMD"; the last point is set "at the trigger where there is none to visit", "NOOP not
--- counted".
-abbrev pub finishes : ℕ → Engine → Bool
-finishes number e = eqb number 12 && (isBlit (commandIn e) || isLine (commandIn e)) && eqb (countOf e) 0
+-- The last point is set "at the trigger where there is none to visit", "NOOP not counted".
+abbrev pub finishes : Extent → ℕ → Engine → Bool
+finishes extent number e = triggers number (commandIn e) && eqb (countOf extent e) 0
 
 -- An engine with an entry's word in its register.
 abbrev pub withWord : Engine → Entry → Engine
@@ -117,42 +116,45 @@ withWord e entry =
       last = e .last;
     }
 
-abbrev pub triggeredOf : ℕ → Engine → Engine
-triggeredOf number e =
+abbrev pub triggeredOf : Extent → ℕ → Engine → Engine
+triggeredOf extent number e =
     record {
-      «under_way» = eqb number 12 && ltb 0 (countOf e);
+      «under_way» = triggers number (commandIn e) && ltb 0 (countOf extent e);
       visited = 0;
       registers = e .registers;
       pattern = patternSet number e;
-      last = cond (finishes number e) (e .registers .xy1) (e .last);
+      last = cond (finishes extent number e) (e .registers .xy1) (e .last);
     }
 
--- One entry taken.
-unfoldable pub takenOf : Engine → Entry → Engine
-takenOf e entry = triggeredOf (entry .register) (withWord e entry)
+unfoldable pub enteredOf : Extent → Engine → Entry → Engine
+enteredOf extent e entry = triggeredOf extent (entry .register) (withWord e entry)
 
--- What holds of every visit; proved in proofs/Visits.antt. Buffers keep their lengths.
+-- One entry taken.
+abbrev pub takenOf : Extent → Scene → Entry → Scene
+takenOf extent s entry = scene (enteredOf extent (s .engine) entry) (s .display) (s .virt)
+
+-- What holds of every visit; proved in proofs/Visiting.antt. Buffers keep their lengths.
 abbrev pub KeepsLengths : Type 0
 KeepsLengths =
-    (width height : ℕ) (s : Scene)
-    → (length (visitOf width height s .display) ≡ length (s .display)) × (length (visitOf width height s .virt) ≡ length (s .virt))
+    (extent : Extent) (s : Scene)
+    → (length (visitOf extent s .display) ≡ length (s .display)) × (length (visitOf extent s .virt) ≡ length (s .virt))
 
 -- A pixel that clip or buffer hides is visited and leaves the buffers as they are.
 abbrev pub HiddenDrawsNothing : Type 0
 HiddenDrawsNothing =
-    (width height : ℕ) (s : Scene) → targetOf (s .engine) width height (s .engine .visited) ≡ Outside
-    → (visitOf width height s .display ≡ s .display)
-    × (visitOf width height s .virt ≡ s .virt)
+    (extent : Extent) (s : Scene) → targetOf extent (s .engine) (s .engine .visited) ≡ Outside
+    → (visitOf extent s .display ≡ s .display)
+    × (visitOf extent s .virt ≡ s .virt)
 
 -- Dashes do not creep: n visits of a line without SOLID move the pattern n times, whatever clip and buffers are.
 abbrev pub MovesByVisits : Type 0
 MovesByVisits =
-    (n width height : ℕ) (s : Scene) → inDashes (commandIn (s .engine)) ≡ true
-    → visitsOf n width height s .engine .pattern
+    (n : ℕ) (extent : Extent) (s : Scene) → inDashes (commandIn (s .engine)) ≡ true
+    → visitsOf n extent s .engine .pattern
     ≡ movesOf (patternControlOf (s .engine .registers .pctrl)) n (s .engine .pattern)
 
 -- No visit of another command moves it.
 abbrev pub OthersMoveNothing : Type 0
 OthersMoveNothing =
-    (n width height : ℕ) (s : Scene) → inDashes (commandIn (s .engine)) ≡ false
-    → visitsOf n width height s .engine .pattern ≡ s .engine .pattern
+    (n : ℕ) (extent : Extent) (s : Scene) → inDashes (commandIn (s .engine)) ≡ false
+    → visitsOf n extent s .engine .pattern ≡ s .engine .pattern

@@ -1,3 +1,4 @@
 pub mod Registers
 pub mod Patterns
+pub mod States
 pub mod Examples

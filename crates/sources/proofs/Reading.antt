@@ -18,7 +18,6 @@ use Rattle.geometry.specs.declared.Point.{Point}
 use Rattle.geometry.specs.declared.Place.{Place}
 use Rattle.geometry.specs.declared.Place.the-variants.{At, Outside}
 use Rattle.geometry.specs.declared.Visit.{Visit}
-use Rattle.geometry.specs.declared.Visit.the-variants.{At as VisitAt}
 use Rattle.entries.specs.Fields.{isBlit}
 use Rattle.entries.specs.declared.fields.Command.{Command}
 use Rattle.registers.specs.declared.file.Registers.{Registers}

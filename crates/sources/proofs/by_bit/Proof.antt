@@ -1,7 +1,5 @@
 use Rattle.sources.proofs.by_bit.Statement.{statement}
 use Rattle.sources.proofs.by_bit.Tie as tie
-use Rattle.sources.proofs.by_bit.Reads as reads
-use Rattle.sources.proofs.by_bit.Lts as lts
 
 returns : tie.Need-returns
 returns c = rw (c .if1 .taken)

@@ -7,11 +7,6 @@ use Rattle.sources.specs.declared.Source.the-variants.{Value, Nothing}
 use Rattle.sources.proofs.Reading.{key-is, copied-by, read-by}
 use Rattle.sources.proofs.copied.Statement.{statement}
 use Rattle.sources.proofs.copied.Tie as tie
-use Rattle.sources.proofs.copied.Reads as reads
-use Rattle.sources.proofs.copied.Lts as lts
-use Rattle.geometry.proofs.cell_visit.Reads as cell-visit-reads
-use Rattle.geometry.proofs.place_of.Reads as place-of-reads
-use Rattle.sources.proofs.byte_at.Reads as byte-at-reads
 
 cell-visit-requires : tie.Need-cell-visit-requires
 cell-visit-requires c κs = search needs

@@ -3,10 +3,6 @@ use mathlib.Core.Path.{ap, _∙_}
 use Rattle.sources.specs.Sources.{byBit, dashOf}
 use Rattle.sources.proofs.dash.Statement.{statement}
 use Rattle.sources.proofs.dash.Tie as tie
-use Rattle.sources.proofs.dash.Reads as reads
-use Rattle.sources.proofs.dash.Lts as lts
-use Rattle.registers.proofs.dashes.Pattern.bit.Reads as bit-reads
-use Rattle.sources.proofs.by_bit.Reads as by-bit-reads
 
 bit-requires : tie.Need-bit-requires
 bit-requires c κs = search needs

@@ -3,10 +3,6 @@ use mathlib.Core.Path.{_∙_}
 use Rattle.lemmas.proofs.Booleans.{first-of, second-of}
 use Rattle.sources.proofs.read.Statement.{statement}
 use Rattle.sources.proofs.read.Tie as tie
-use Rattle.sources.proofs.read.Reads as reads
-use Rattle.sources.proofs.read.Lts as lts
-use Rattle.sources.proofs.copied.Reads as copied-reads
-use Rattle.sources.proofs.stippled.Reads as stippled-reads
 
 stippled-requires : tie.Need-stippled-requires
 stippled-requires c κs = search needs

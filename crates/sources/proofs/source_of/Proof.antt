@@ -5,11 +5,6 @@ use Rattle.entries.specs.Fields.{isBlit}
 use Rattle.sources.proofs.Reading.{source-solid, source-read, source-dash}
 use Rattle.sources.proofs.source_of.Statement.{statement}
 use Rattle.sources.proofs.source_of.Tie as tie
-use Rattle.sources.proofs.source_of.Reads as reads
-use Rattle.sources.proofs.source_of.Lts as lts
-use Rattle.entries.proofs.fields.Command.is_blit.Reads as is-blit-reads
-use Rattle.sources.proofs.dash.Reads as dash-reads
-use Rattle.sources.proofs.read.Reads as read-reads
 
 returns : tie.Need-returns
 returns c = source-solid _ _ _ _ _ _ _ (c .if1 .taken)

@@ -8,12 +8,6 @@ use Rattle.sources.specs.Sources.{byBit}
 use Rattle.sources.proofs.Reading.{stippled-by, left-of-bits, bit-by}
 use Rattle.sources.proofs.stippled.Statement.{statement}
 use Rattle.sources.proofs.stippled.Tie as tie
-use Rattle.sources.proofs.stippled.Reads as reads
-use Rattle.sources.proofs.stippled.Lts as lts
-use Rattle.geometry.proofs.cell_visit.Reads as cell-visit-reads
-use Rattle.geometry.proofs.place_of.Reads as place-of-reads
-use Rattle.sources.proofs.by_bit.Reads as by-bit-reads
-use Rattle.sources.proofs.byte_at.Reads as byte-at-reads
 
 cell-visit-requires : tie.Need-cell-visit-requires
 cell-visit-requires c κs = search needs

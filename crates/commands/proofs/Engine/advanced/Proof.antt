@@ -1,8 +1,8 @@
-use borrow.Author.Needs.{needs}
-use native.Mathlib.Omega.{arith}
-use borrow.Author.Tests.{lt-ltb, le-ltb}
-use Rattle.commands.specs.Steps.{advancedOf}
 use Rattle.commands.proofs.Bounds.{pixels-lt}
+use Rattle.commands.specs.Steps.{advancedOf}
+use borrow.Author.Tests.{lt-ltb, le-ltb}
+use native.Mathlib.Omega.{arith}
+use borrow.Author.Needs.{needs}
 use Rattle.commands.proofs.Engine.advanced.Statement.{statement}
 use Rattle.commands.proofs.Engine.advanced.Tie as tie
 
@@ -18,10 +18,10 @@ cast-if1 c = search needs
 add-if1 : tie.Need-add-if1
 add-if1 c = search needs
 
-add-t8 : tie.Need-add-t8
-add-t8 c =
+add-t9 : tie.Need-add-t9
+add-t9 c =
     let first = c .before .before .before .before .before .before in
-    omega (arith, c .before .before .before .count .ensures, pixels-lt (first .args .self) (omega (arith, first .good .0)))
+    omega (arith, c .before .before .before .count .ensures, pixels-lt (first .args .extent) (first .args .self) (omega (arith, first .good .0)))
 
 returns : tie.Need-returns
 unfolding advancedOf
@@ -38,4 +38,4 @@ returns-2 c =
 pub advanced-spec : {M : Type 1} → statement M
 advanced-spec =
     tie.close
-    (tie.spec pattern-after-requires count-requires cast-if1 add-if1 add-t8 returns returns-2)
+    (tie.spec pattern-after-requires count-requires cast-if1 add-if1 add-t9 returns returns-2)

@@ -1,19 +1,36 @@
-use mathlib.Core.Path.{_∙_}
+use Rattle.commands.proofs.Tests.{count-blit, count-line, count-none}
+use Rattle.entries.specs.Fields.{isBlit, isLine}
+use lib.Dec.{eqb}
+use mathlib.Core.Path.{ap}
+use Rattle.commands.specs.Visits.{commandIn}
+use mathlib.Core.Bool.{Bool, true, false}
+use mathlib.Core.Path.{_≡_, _∙_}
+use Rattle.commands.proofs.Tests.{test-is}
 use borrow.Author.Needs.{needs}
-use Rattle.commands.proofs.Tests.{empty-blit, empty-line}
 use Rattle.commands.proofs.Engine.is_empty.Statement.{statement}
 use Rattle.commands.proofs.Engine.is_empty.Tie as tie
 
+-- whether the command in CMD is a blit
+blit : (c : tie.After-is-blit) (b : Bool) → c .is-blit .result ≡ b → isBlit (commandIn (c .before .before .before .args .self)) ≡ b
+blit c b h = test-is (c .before .before .before .args .self) _ (c .before .command-of .ensures) isBlit _ (c .is-blit .ensures) b h
+
+-- whether it is a line
+line : (c : tie.After-is-line) (b : Bool) → c .is-line .result ≡ b → isLine (commandIn (c .before .before .before .before .before .args .self)) ≡ b
+line c b h =
+    let o = c .before .before .before in
+    test-is (o .before .before .args .self) _ (o .command-of .ensures) isLine _ (c .is-line .ensures) b h
+
 command-of-requires : tie.Need-command-of-requires
 command-of-requires c κs = search needs
+
+is-blit-requires : tie.Need-is-blit-requires
+is-blit-requires c κs = search needs
 
 blit-count-requires : tie.Need-blit-count-requires
 blit-count-requires c κs = search needs
 
 returns : tie.Need-returns
-returns c =
-    let k = c .before .before .before in
-    empty-blit (k .before .before .args .self) _ (k .command-of .ensures) (c .before .if1 .taken) _ (c .blit-count .ensures)
+returns c = ap (λ n. eqb n 0) (c .blit-count .ensures ∙ count-blit _ _ (blit (c .before .before) true (c .before .if1 .taken)))
 
 is-line-requires : tie.Need-is-line-requires
 is-line-requires c κs = search needs
@@ -26,19 +43,26 @@ line-is-empty-requires c κs = search needs
 
 returns-2 : tie.Need-returns-2
 returns-2 c =
-    let o = c .before .before in
-    let k = o .before .before .before in
-    empty-line (k .before .before .args .self) _ (k .command-of .ensures) (o .before .if1 .left) _ _ (o .is-line .ensures)
-    (c .line-is-empty .ensures ∙ rw (c .before .line-start .ensures))
+    let o = c .before .before .before in
+    let said = o .before .before .before .command-of .ensures in
+    c .line-is-empty .ensures ∙ rw (c .before .line-start .ensures, said)
+    (ap (λ n. eqb n 0) (count-line _ _ (blit (o .before .before) false (o .before .if1 .left)) (line o true (c .before .before .if2 .taken))))
+
+returns-3 : tie.Need-returns-3
+returns-3 c =
+    ap (λ n. eqb n 0)
+    (count-none _ _ (blit (c .before .before .before) false (c .before .before .if1 .left)) (line (c .before) false (c .if2 .left)))
 
 pub is-empty-spec : {M : Type 1} → statement M
 is-empty-spec =
     tie.close
     (tie.spec
     command-of-requires
+    is-blit-requires
     blit-count-requires
     returns
     is-line-requires
     line-start-requires
     line-is-empty-requires
-    returns-2)
+    returns-2
+    returns-3)

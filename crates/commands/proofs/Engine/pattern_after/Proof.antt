@@ -1,8 +1,8 @@
-use mathlib.Core.Path.{_∙_}
-use mathlib.Core.Bool.{true, false}
-use borrow.Author.Needs.{needs}
-use Rattle.commands.proofs.Tests.{dash-is}
 use Rattle.commands.proofs.Marks.{pattern-by}
+use Rattle.commands.proofs.Tests.{dash-is}
+use mathlib.Core.Bool.{true, false}
+use mathlib.Core.Path.{_∙_}
+use borrow.Author.Needs.{needs}
 use Rattle.commands.proofs.Engine.pattern_after.Statement.{statement}
 use Rattle.commands.proofs.Engine.pattern_after.Tie as tie
 

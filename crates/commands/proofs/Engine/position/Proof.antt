@@ -1,23 +1,34 @@
+use Rattle.commands.proofs.Tests.{position-blit, position-line, position-none}
+use Rattle.entries.specs.Fields.{isBlit, isLine}
+use Rattle.commands.specs.Visits.{commandIn}
+use mathlib.Core.Bool.{Bool, true, false}
+use mathlib.Core.Path.{_≡_, _∙_}
+use Rattle.commands.proofs.Tests.{test-is}
 use borrow.Author.Needs.{needs}
-use mathlib.Core.Path.{_∙_}
-use mathlib.Core.Bool.{true, false}
-use Rattle.commands.specs.Visits.{visitAt}
-use Rattle.commands.proofs.Tests.{opcode-yes, opcode-no, line-is}
 use Rattle.commands.proofs.Engine.position.Statement.{statement}
 use Rattle.commands.proofs.Engine.position.Tie as tie
+
+-- whether the command in CMD is a blit
+blit : (c : tie.After-is-blit) (b : Bool) → c .is-blit .result ≡ b → isBlit (commandIn (c .before .before .before .args .self)) ≡ b
+blit c b h = test-is (c .before .before .before .args .self) _ (c .before .command-of .ensures) isBlit _ (c .is-blit .ensures) b h
+
+-- whether it is a line
+line : (c : tie.After-is-line) (b : Bool) → c .is-line .result ≡ b → isLine (commandIn (c .before .before .before .before .before .args .self)) ≡ b
+line c b h =
+    let o = c .before .before .before in
+    test-is (o .before .before .args .self) _ (o .command-of .ensures) isLine _ (c .is-line .ensures) b h
 
 command-of-requires : tie.Need-command-of-requires
 command-of-requires c κs = search needs
 
-blit-visit-requires : tie.Need-blit-visit-requires
-blit-visit-requires c κs = search needs
+is-blit-requires : tie.Need-is-blit-requires
+is-blit-requires c κs = search needs
+
+cell-visit-requires : tie.Need-cell-visit-requires
+cell-visit-requires c κs = search needs
 
 returns : tie.Need-returns
-unfolding visitAt
-returns c =
-    let o = c .before in
-    let e = o .before .before .before .before .args .self in
-    rw (opcode-yes e _ (o .before .before .command-of .ensures) 1 (o .if1 .taken)) (c .blit-visit .ensures)
+returns c = c .cell-visit .ensures ∙ position-blit _ _ _ (blit (c .before .before) true (c .before .if1 .taken))
 
 is-line-requires : tie.Need-is-line-requires
 is-line-requires c κs = search needs
@@ -29,31 +40,22 @@ line-visit-requires : tie.Need-line-visit-requires
 line-visit-requires c κs = search needs
 
 returns-2 : tie.Need-returns-2
-unfolding visitAt
 returns-2 c =
-    let o = c .before .before .before .before in
-    let e = o .before .before .before .before .args .self in
-    let said = o .before .before .command-of .ensures in
-    rw (
-      opcode-no e _ said 1 (o .if1 .left),
-      line-is e _ said _ (c .before .before .before .is-line .ensures) true (c .before .before .if2 .taken),
-    )
-    (c .line-visit .ensures ∙ rw (c .before .line-start .ensures, said))
+    let o = c .before .before .before in
+    let said = o .before .before .before .command-of .ensures in
+    c .line-visit .ensures ∙ rw (c .before .line-start .ensures, said)
+    (position-line _ _ _ (blit (o .before .before) false (o .before .if1 .left)) (line o true (c .before .before .if2 .taken)))
 
 returns-3 : tie.Need-returns-3
-unfolding visitAt
-returns-3 c =
-    let o = c .before .before in
-    let e = o .before .before .before .before .args .self in
-    let said = o .before .before .command-of .ensures in
-    rw (opcode-no e _ said 1 (o .if1 .left), line-is e _ said _ (c .before .is-line .ensures) false (c .if2 .left))
+returns-3 c = position-none _ _ _ (blit (c .before .before .before) false (c .before .before .if1 .left)) (line (c .before) false (c .if2 .left))
 
 pub position-spec : {M : Type 1} → statement M
 position-spec =
     tie.close
     (tie.spec
     command-of-requires
-    blit-visit-requires
+    is-blit-requires
+    cell-visit-requires
     returns
     is-line-requires
     line-start-requires

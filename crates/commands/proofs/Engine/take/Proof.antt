@@ -1,6 +1,6 @@
-use borrow.Author.Needs.{needs}
+use Rattle.commands.specs.Steps.{enteredOf}
 use mathlib.Core.Path.{_∙_}
-use Rattle.commands.specs.Steps.{takenOf}
+use borrow.Author.Needs.{needs}
 use Rattle.commands.proofs.Engine.take.Statement.{statement}
 use Rattle.commands.proofs.Engine.take.Tie as tie
 
@@ -11,7 +11,7 @@ triggered-requires : tie.Need-triggered-requires
 triggered-requires c κs = search needs
 
 returns : tie.Need-returns
-unfolding takenOf
+unfolding enteredOf
 returns c = c .triggered .ensures ∙ rw (c .before .written .ensures)
 
 pub take-spec : {M : Type 1} → statement M

@@ -1,7 +1,7 @@
-use borrow.Author.Needs.{needs}
-use mathlib.Core.Path.{_∙_}
 use mathlib.Core.Bool.{true, false}
+use mathlib.Core.Path.{_∙_}
 use Rattle.commands.proofs.Tests.{clip-is, target-by, clipped, unclipped}
+use borrow.Author.Needs.{needs}
 use Rattle.commands.proofs.Engine.target.Statement.{statement}
 use Rattle.commands.proofs.Engine.target.Tie as tie
 
@@ -19,8 +19,9 @@ enum-told c = search needs
 
 returns : tie.Need-returns
 returns c =
-    let s = c .before .before .before .before .before .args in
-    target-by (s .self) (s .width) (s .height) (s .k) _ _ (c .before .before .position .ensures) (c .enum-told .given .1)
+    let o = c .before .before in
+    let s = o .before .before .before .args in
+    target-by (s .extent) (s .self) (s .k) (s .cell) _ _ (o .position .ensures) (c .enum-told .given .1)
 
 rect-of-requires : tie.Need-rect-of-requires
 rect-of-requires c κs = search needs
@@ -34,9 +35,9 @@ returns-2 c =
     let found = seen .before .before in
     let o = found .before .before in
     let s = o .before .before .before .args in
-    clipped (s .self) (s .width) (s .height) _
+    clipped (s .extent) (s .self) _
     (clip-is (s .self) _ (o .before .command-of .ensures) _ _ _ (seen .rect-of .ensures) (c .before .before .contains .ensures) true (c .if1 .taken))
-    ∙ target-by (s .self) (s .width) (s .height) (s .k) _ _ (o .position .ensures) (found .visit .given .1)
+    ∙ target-by (s .extent) (s .self) (s .k) (s .cell) _ _ (o .position .ensures) (found .visit .given .1)
 
 place-of-requires : tie.Need-place-of-requires
 place-of-requires c κs = search needs
@@ -47,9 +48,9 @@ returns-3 c =
     let found = seen .before .before in
     let o = found .before .before in
     let s = o .before .before .before .args in
-    unclipped (s .self) (s .width) (s .height) _ _ (c .place-of .ensures)
+    unclipped (s .extent) (s .self) _ _ (c .place-of .ensures)
     (clip-is (s .self) _ (o .before .command-of .ensures) _ _ _ (seen .rect-of .ensures) (c .before .before .before .contains .ensures) false (c .before .if1 .left))
-    ∙ target-by (s .self) (s .width) (s .height) (s .k) _ _ (o .position .ensures) (found .visit .given .1)
+    ∙ target-by (s .extent) (s .self) (s .k) (s .cell) _ _ (o .position .ensures) (found .visit .given .1)
 
 pub target-spec : {M : Type 1} → statement M
 target-spec =

@@ -1,5 +1,5 @@
-use borrow.Author.Needs.{needs}
 use Rattle.commands.proofs.Marks.{visit-virtual, visit-display}
+use borrow.Author.Needs.{needs}
 use Rattle.commands.proofs.Engine.visit.Statement.{statement}
 use Rattle.commands.proofs.Engine.visit.Tie as tie
 
@@ -9,11 +9,14 @@ cast-k c = search needs
 command-of-requires : tie.Need-command-of-requires
 command-of-requires c κs = search needs
 
+cell-requires : tie.Need-cell-requires
+cell-requires c κs = search needs
+
 target-requires : tie.Need-target-requires
 target-requires c κs = search needs
 
-source-requires : tie.Need-source-requires
-source-requires c κs = search needs
+source-of-requires : tie.Need-source-of-requires
+source-of-requires c κs = search needs
 
 advanced-requires : tie.Need-advanced-requires
 advanced-requires c κs = search needs
@@ -34,10 +37,11 @@ returns : tie.Need-returns
 returns c =
     let chosen = c .before .before .before .before in
     let o = chosen .before in
-    let found = o .before .before .before .before in
-    let s = found .before .before .before .before .before .before .args in
-    visit-virtual (s .width) (s .height) (s .self) (s .display .now) (s .virt .now) _ _ _ _ _ (found .before .command-of .ensures)
-    (found .target .ensures) (o .before .source .ensures) (o .advanced .ensures) (chosen .if1 .taken) (c .before .before .ink .ensures)
+    let at = o .before .before .before .before in
+    let found = at .before in
+    let s = found .before .before .before .before .before .before .before .args in
+    visit-virtual (s .extent) (s .self) (s .display .now) (s .virt .now) _ _ _ _ _ _ (found .before .command-of .ensures) (found .cell .ensures)
+    (at .target .ensures) (o .before .source-of .ensures) (o .advanced .ensures) (chosen .if1 .taken) (c .before .before .ink .ensures)
 
 same-length-3 : tie.Need-same-length-3
 same-length-3 c = search needs
@@ -49,10 +53,11 @@ returns-2 : tie.Need-returns-2
 returns-2 c =
     let chosen = c .before .before .before .before in
     let o = chosen .before in
-    let found = o .before .before .before .before in
-    let s = found .before .before .before .before .before .before .args in
-    visit-display (s .width) (s .height) (s .self) (s .display .now) (s .virt .now) _ _ _ _ _ (found .before .command-of .ensures)
-    (found .target .ensures) (o .before .source .ensures) (o .advanced .ensures) (chosen .if1 .left) (c .before .before .ink2 .ensures)
+    let at = o .before .before .before .before in
+    let found = at .before in
+    let s = found .before .before .before .before .before .before .before .args in
+    visit-display (s .extent) (s .self) (s .display .now) (s .virt .now) _ _ _ _ _ _ (found .before .command-of .ensures) (found .cell .ensures)
+    (at .target .ensures) (o .before .source-of .ensures) (o .advanced .ensures) (chosen .if1 .left) (c .before .before .ink2 .ensures)
 
 pub visit-spec : {M : Type 1} → statement M
 visit-spec =
@@ -60,8 +65,9 @@ visit-spec =
     (tie.spec
     cast-k
     command-of-requires
+    cell-requires
     target-requires
-    source-requires
+    source-of-requires
     advanced-requires
     ink-requires
     ink-requires-2

@@ -8,6 +8,7 @@ use native.Mathlib.Numerals.{add-one}
 use lib.Dec.{ltb}
 use lib.ListN.{length, getD, length-set}
 use Rattle.raster.specs.Raster.{newByte}
+use Rattle.geometry.specs.declared.Extent.{Extent}
 use Rattle.geometry.specs.declared.Place.{Place}
 use Rattle.geometry.specs.declared.Place.the-variants.{At, Outside}
 use Rattle.lemmas.specs.Turns.{inTurn}
@@ -16,12 +17,11 @@ use Rattle.entries.specs.Fields.{commandOf, patternControlOf}
 use Rattle.registers.specs.Patterns.{nextOf}
 use Rattle.registers.specs.declared.dashes.Pattern.{Pattern}
 use Rattle.registers.specs.declared.file.Registers.{Registers}
-use Rattle.commands.specs.Visits.{commandIn, countOf, targetOf}
-use Rattle.commands.specs.Sources.{sourceOf}
+use Rattle.sources.specs.declared.Source.{Source}
+use Rattle.sources.specs.declared.Source.the-variants.{Value, Nothing}
+use Rattle.commands.specs.Visits.{commandIn, countOf, targetOf, sourceAt}
 use Rattle.commands.specs.Steps.{Scene, inked, inkedAt, inDashes, patternAfter, advancedOf, visitOf, visitsOf, KeepsLengths, HiddenDrawsNothing, MovesByVisits, OthersMoveNothing}
 use Rattle.commands.specs.declared.Engine.{Engine}
-use Rattle.commands.specs.declared.Source.{Source}
-use Rattle.commands.specs.declared.Source.the-variants.{Value, Nothing}
 
 inked-length : (e : Engine) (s : Source) (q : Place) (l : List ℕ) → length (inked e s q l) ≡ length l
 inked-length e (Value v) (At i) l = length-set l i (newByte (commandIn e .code) v (getD l i 0) (e .registers .mask))
@@ -35,10 +35,10 @@ either P false l m p q = q
 
 pub keeps-lengths : KeepsLengths
 unfolding visitOf
-keeps-lengths width height s =
+keeps-lengths extent s =
     let e = s .engine in
-    let q = targetOf e width height (e .visited) in
-    let o = sourceOf e width height (e .visited) (s .display) (s .virt) in (
+    let q = targetOf extent e (e .visited) in
+    let o = sourceAt extent e (e .visited) (s .display) (s .virt) in (
       either (λ l. length l ≡ length (s .display)) (commandIn e .«to_virtual») (s .display) (inked e o q (s .display)) refl
           (inked-length e o q (s .display)),
       either (λ l. length l ≡ length (s .virt)) (commandIn e .«to_virtual») (inked e o q (s .virt)) (s .virt) (inked-length e o q (s .virt))
@@ -51,37 +51,37 @@ hidden-inks-nothing e Nothing q l p = refl
 
 pub hidden-draws-nothing : HiddenDrawsNothing
 unfolding visitOf
-hidden-draws-nothing width height s p =
+hidden-draws-nothing extent s p =
     let e = s .engine in
-    let q = targetOf e width height (e .visited) in
-    let o = sourceOf e width height (e .visited) (s .display) (s .virt) in (
+    let q = targetOf extent e (e .visited) in
+    let o = sourceAt extent e (e .visited) (s .display) (s .virt) in (
       either (λ l. l ≡ s .display) (commandIn e .«to_virtual») (s .display) (inked e o q (s .display)) refl
           (hidden-inks-nothing e o q (s .display) p),
       either (λ l. l ≡ s .virt) (commandIn e .«to_virtual») (inked e o q (s .virt)) (s .virt) (hidden-inks-nothing e o q (s .virt) p) refl,
     )
 
-pub visits-none : (width height : ℕ) (s : Scene) → s ≡ visitsOf 0 width height s
+pub visits-none : (extent : Extent) (s : Scene) → s ≡ visitsOf 0 extent s
 unfolding visitsOf
-visits-none width height s = refl
+visits-none extent s = refl
 
-pub visits-more : (n width height : ℕ) (s t : Scene) → t ≡ visitsOf n width height s → visitOf width height t ≡ visitsOf (n + 1) width height s
+pub visits-more : (n : ℕ) (extent : Extent) (s t : Scene) → t ≡ visitsOf n extent s → visitOf extent t ≡ visitsOf (n + 1) extent s
 unfolding visitsOf
-visits-more n width height s t e = rw add-one (ap (visitOf width height) e)
+visits-more n extent s t e = rw add-one (ap (visitOf extent) e)
 
 -- the pattern after n visits
-advanced-pattern : (e : Engine) → advancedOf e .pattern ≡ patternAfter e
+advanced-pattern : (extent : Extent) (e : Engine) → advancedOf extent e .pattern ≡ patternAfter e
 unfolding advancedOf
-advanced-pattern e = by-cases (ltb (e .visited + 1) (countOf e)) (λ t. rw t) (λ t. rw t)
+advanced-pattern extent e = by-cases (ltb (e .visited + 1) (countOf extent e)) (λ t. rw t) (λ t. rw t)
 
-pub advanced-registers : (e : Engine) → advancedOf e .registers ≡ e .registers
+pub advanced-registers : (extent : Extent) (e : Engine) → advancedOf extent e .registers ≡ e .registers
 unfolding advancedOf
-advanced-registers e = by-cases (ltb (e .visited + 1) (countOf e)) (λ t. rw t) (λ t. rw t)
+advanced-registers extent e = by-cases (ltb (e .visited + 1) (countOf extent e)) (λ t. rw t) (λ t. rw t)
 
-pub visits-registers : (n width height : ℕ) (s : Scene) → visitsOf n width height s .engine .registers ≡ s .engine .registers
+pub visits-registers : (n : ℕ) (extent : Extent) (s : Scene) → visitsOf n extent s .engine .registers ≡ s .engine .registers
 unfolding visitOf visitsOf
-visits-registers zero width height s = refl
-visits-registers (suc n) width height s =
-    advanced-registers (visitsOf n width height s .engine) ∙ visits-registers n width height s
+visits-registers zero extent s = refl
+visits-registers (suc n) extent s =
+    advanced-registers extent (visitsOf n extent s .engine) ∙ visits-registers n extent s
 
 -- a visit's pattern, from the registers and the pattern before it
 pattern-from : (e : Engine) (g : Registers) (q : Pattern) (b : Bool) → e .registers ≡ g → e .pattern ≡ q → inDashes (commandOf (g .cmd)) ≡ b
@@ -91,16 +91,22 @@ pattern-from e g q b p r h = rw (p, r, h)
 
 pub moves-by-visits : MovesByVisits
 unfolding visitOf visitsOf inTurn
-moves-by-visits zero width height s h = refl
-moves-by-visits (suc n) width height s h =
-    let e = visitsOf n width height s .engine in
-    advanced-pattern e
-    ∙ pattern-from e (s .engine .registers) _ true (visits-registers n width height s) (moves-by-visits n width height s h) h
+moves-by-visits zero extent s h = refl
+moves-by-visits (suc n) extent s h =
+    let e = visitsOf n extent s .engine in
+    advanced-pattern extent e
+    ∙ pattern-from e (s .engine .registers) _ true (visits-registers n extent s) (moves-by-visits n extent s h) h
 
 pub others-move-nothing : OthersMoveNothing
 unfolding visitOf visitsOf
-others-move-nothing zero width height s h = refl
-others-move-nothing (suc n) width height s h =
-    let e = visitsOf n width height s .engine in
-    advanced-pattern e
-    ∙ pattern-from e (s .engine .registers) _ false (visits-registers n width height s) (others-move-nothing n width height s h) h
+others-move-nothing zero extent s h = refl
+others-move-nothing (suc n) extent s h =
+    let e = visitsOf n extent s .engine in
+    advanced-pattern extent e
+    ∙ pattern-from e (s .engine .registers) _ false (visits-registers n extent s) (others-move-nothing n extent s h) h
+
+-- the first of n + 1 visits, and then n
+pub visits-first : (n : ℕ) (extent : Extent) (s : Scene) → visitsOf n extent (visitOf extent s) ≡ visitsOf (suc n) extent s
+unfolding visitsOf
+visits-first zero extent s = refl
+visits-first (suc n) extent s = ap (visitOf extent) (visits-first n extent s)

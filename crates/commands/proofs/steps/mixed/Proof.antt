@@ -1,8 +1,8 @@
-use borrow.Author.Needs.{needs}
-use mathlib.Core.Path.{_∙_}
 use Rattle.raster.proofs.Rule.{newByte-low}
-use Rattle.commands.proofs.mixed.Statement.{statement}
-use Rattle.commands.proofs.mixed.Tie as tie
+use mathlib.Core.Path.{_∙_}
+use borrow.Author.Needs.{needs}
+use Rattle.commands.proofs.steps.mixed.Statement.{statement}
+use Rattle.commands.proofs.steps.mixed.Tie as tie
 
 cast-new-byte : tie.Need-cast-new-byte
 cast-new-byte c = search needs

@@ -1,0 +1,154 @@
+// One step: a pixel visited, or an entry taken.
+ghost use mathlib.Core.Path.{_≡_};
+ghost use Rattle.raster.specs.Raster.{newByte};
+ghost use Rattle.commands.specs.Steps.{scene, inked, patternAfter, advancedOf, visitOf, patternSet, triggeredOf, enteredOf};
+use crate::Engine;
+use entries::Entry;
+use entries::command_of;
+use entries::is_trigger;
+use entries::pattern_control_of;
+use geometry::Extent;
+use geometry::Place;
+use registers::Pattern;
+use sources::Source;
+use sources::source_of;
+
+// The new byte of a pixel; of value and mask the low eight bits count.
+fn mixed(code: u8, value: u32, old: u8, mask: u32) -> u8
+    ensures { λ r. ⌜ r ≡ newByte code value old mask ⌝ }
+{
+    raster::new_byte(code, (value % 256) as u8, old, (mask % 256) as u8)
+}
+
+impl Engine {
+    // A visit's mark in its destination buffer.
+    fn ink(self, source: Source, place: Place, buffer: &mut [u8])
+        ensures { λ _. ⌜ now (buffer .exit) ≡ inked self source place (now (buffer .entry)) ⌝ }
+    {
+        let Source::Value(value) = source else {
+            return;
+        };
+        let Place::At(at) = place else {
+            return;
+        };
+        let g = self.registers;
+        let c = command_of(g.cmd);
+        if at < buffer.len() {
+            buffer[at] = mixed(c.code, value, buffer[at], g.mask);
+        }
+    }
+
+    // The pattern after a visit.
+    fn pattern_after(self) -> Pattern
+        ensures { λ r. ⌜ r ≡ patternAfter self ⌝ }
+    {
+        let g = self.registers;
+        let p = self.pattern;
+        let c = command_of(g.cmd);
+        if c.is_line() & !c.solid {
+            return p.next(pattern_control_of(g.pctrl));
+        }
+        p
+    }
+
+    // With one more pixel visited.
+    fn advanced(self, extent: Extent) -> Engine
+        ensures { λ r. ⌜ r ≡ advancedOf extent self ⌝ }
+    {
+        let g = self.registers;
+        let p = self.pattern_after();
+        let n = self.count(extent);
+        if (self.visited as usize) + 1 < n {
+            return Engine {
+                under_way: true,
+                visited: self.visited + 1,
+                registers: g,
+                pattern: p,
+                last: self.last,
+            };
+        }
+        Engine {
+            under_way: false,
+            visited: 0,
+            registers: g,
+            pattern: p,
+            last: g.xy1,
+        }
+    }
+
+    // One pixel visited. A blit's target and source are at the same cell.
+    pub fn visit(self, extent: Extent, display: &mut [u8], virt: &mut [u8]) -> Engine
+        ensures { λ r. ⌜ scene r (now (display .exit)) (now (virt .exit)) ≡ visitOf extent (scene self (now (display .entry)) (now (virt .entry))) ⌝ }
+    {
+        let k = self.visited as usize;
+        let g = self.registers;
+        let p = self.pattern;
+        let c = command_of(g.cmd);
+        let cell = self.cell(extent, k);
+        let place = self.target(extent, k, cell);
+        let source = source_of(c, g, p, extent, cell, display, virt);
+        let after = self.advanced(extent);
+        if c.to_virtual {
+            self.ink(source, place, virt);
+        } else {
+            self.ink(source, place, display);
+        }
+        after
+    }
+
+    // The pattern state once an entry is written.
+    fn pattern_set(self, number: u32) -> Pattern
+        ensures { λ r. ⌜ r ≡ patternSet number self ⌝ }
+    {
+        let g = self.registers;
+        let p = self.pattern;
+        let c = command_of(g.cmd);
+        if (number == 6) | (is_trigger(number) & c.is_line() & c.prst) {
+            return Pattern::start(pattern_control_of(g.pctrl));
+        }
+        p
+    }
+
+    // A register was written, which may trigger the command in CMD.
+    fn triggered(self, extent: Extent, number: u32) -> Engine
+        ensures { λ r. ⌜ r ≡ triggeredOf extent number self ⌝ }
+    {
+        let g = self.registers;
+        let p = self.pattern_set(number);
+        if !is_trigger(number) {
+            return Engine {
+                under_way: false,
+                visited: 0,
+                registers: g,
+                pattern: p,
+                last: self.last,
+            };
+        }
+        let c = command_of(g.cmd);
+        let draws = c.draws();
+        let empty = self.is_empty(extent);
+        Engine {
+            under_way: draws & !empty,
+            visited: 0,
+            registers: g,
+            pattern: p,
+            last: if draws & empty { g.xy1 } else { self.last },
+        }
+    }
+
+    // One entry taken, which changes no byte of the buffers.
+    pub fn take(self, extent: Extent, entry: Entry) -> Engine
+        ensures { λ r. ⌜ r ≡ enteredOf extent self entry ⌝ }
+    {
+        let g = self.registers;
+        let p = self.pattern;
+        let written = Engine {
+            under_way: false,
+            visited: 0,
+            registers: g.written(entry.register, entry.word),
+            pattern: p,
+            last: self.last,
+        };
+        written.triggered(extent, entry.register)
+    }
+}
