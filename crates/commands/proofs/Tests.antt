@@ -1,5 +1,6 @@
 -- What a command's decoded fields say of the definitions: the kind, the visit and the clip.
 -- Assumes nothing.
+use Rattle.geometry.specs.declared.Cell.the-variants.{Past as CellPast}
 use mathlib.Core.Path.{_≡_, ap, ap₂, sym, _∙_}
 use mathlib.Core.Bool.{Bool, true, false, not, cond, _&&_, _||_}
 use Prim.Native.Nat.{ℕ}

@@ -1,4 +1,5 @@
 -- What a command visits, and which of its pixels clip and buffer let through (01, Pixels), on buffers of a given extent.
+use Rattle.geometry.specs.declared.Cell.the-variants.{Past as CellPast}
 use mathlib.Core.Bool.{Bool, not, cond, _&&_}
 use mathlib.Core.List.{List}
 use Prim.Native.Nat.{ℕ}

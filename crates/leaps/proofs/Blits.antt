@@ -15,29 +15,32 @@ use Rattle.raster.specs.Selectors.{drawn, selected}
 use Rattle.raster.proofs.Wide.{pen-as, selectors-as}
 use Rattle.geometry.specs.Coordinates.{origin, pointOf}
 use Rattle.geometry.specs.Clip.{inBuffer, placeOf, inWindow, placeIn}
-use Rattle.geometry.specs.Blit.{blitCount, blitPoint}
+use Rattle.geometry.specs.Blit.{blitCount, cellVisit, blitPoint}
 use Rattle.geometry.specs.declared.Point.{Point}
 use Rattle.geometry.specs.declared.Place.{Place}
 use Rattle.geometry.specs.declared.Place.the-variants.{At, Outside}
 use Rattle.geometry.specs.declared.Visit.the-variants.{At as VisitAt}
-use Rattle.geometry.proofs.Blits.{blit-at}
+use Rattle.geometry.proofs.Blits.{cell-visit}
 use Rattle.geometry.proofs.Windows.{window-lets-through}
 use Rattle.rows.specs.Rows.{mixed}
 use Rattle.stipples.specs.Stipples.{bitAt, stippled}
 use Rattle.blits.specs.Blits.{painted, reads, sourcePixels, visited}
 use Rattle.blits.specs.declared.Paint.{Paint}
-use Rattle.blits.specs.declared.Paint.the-variants.{Solid}
-use Rattle.commands.specs.Visits.{commandIn, isBlit, countOf, visitAt, clippedOut, throughTo, targetOf}
-use Rattle.commands.specs.Sources.{keyed, readAt, copiedAt, copiedOf, byBit, bitOf, stippledAt, stippledOf, readOf, sourceOf}
+use Rattle.blits.specs.declared.Paint.the-variants.{Solid, Copied, Moved, Stippled, StippledWithin}
+use Rattle.commands.specs.Visits.{commandIn, countOf, cellAt, visitAt, clippedOut, throughTo, targetOf, sourceAt}
+use Rattle.commands.proofs.Tests.{count-blit, cell-blit, position-blit}
+use Rattle.sources.proofs.Reading.{source-solid, source-read}
+use Rattle.entries.specs.Fields.{isBlit}
+use Rattle.sources.specs.Sources.{keyed, readAt, copiedAt, copiedOf, byBit, bitOf, stippledAt, stippledOf, readOf}
 use Rattle.commands.specs.Steps.{inked}
 use Rattle.leaps.specs.Leaps.{penIn, mixIn, stippleIn, fromOther, fromOwn, paintOf, blitIn, windowIn}
 use Rattle.commands.specs.declared.Engine.{Engine}
-use Rattle.commands.specs.declared.Source.{Source}
-use Rattle.commands.specs.declared.Source.the-variants.{Value, Nothing}
+use Rattle.sources.specs.declared.Source.{Source}
+use Rattle.sources.specs.declared.Source.the-variants.{Value, Nothing}
+use Rattle.geometry.specs.declared.Extent.{Extent}
 
-pub count-is : (e : Engine) → isBlit (commandIn e) ≡ true → countOf e ≡ blitCount (e .registers .xy2)
-unfolding countOf
-count-is e h = rw h
+pub count-is : (extent : Extent) (e : Engine) → isBlit (commandIn e) ≡ true → countOf extent e ≡ blitCount (e .registers .xy2)
+count-is extent e h = sym (count-blit extent e h)
 
 -- a place, by two tests and by one
 one-test : (t u : Bool) (p : Place) → cond t Outside (cond u p Outside) ≡ cond (not t && u) p Outside
@@ -45,15 +48,15 @@ one-test true u p = refl
 one-test false u p = refl
 
 -- the place of a visit that lies at a point
-pub place-of-visit : (e : Engine) (width height k : ℕ) (p : Point) → visitAt e k ≡ VisitAt p
-    → targetOf e width height k ≡ cond (inWindow (windowIn e width height) p) (At (placeIn width p)) Outside
+pub place-of-visit : (extent : Extent) (e : Engine) (k : ℕ) (p : Point) → visitAt extent e k ≡ VisitAt p
+    → targetOf extent e k ≡ cond (inWindow (windowIn extent e) p) (At (placeIn (extent .width) p)) Outside
 unfolding placeOf
-place-of-visit e width height k p h =
-    ap (throughTo e width height) h ∙ one-test (clippedOut e p) (inBuffer width height p) (At (placeIn width p))
-    ∙ ap (λ t. cond t (At (placeIn width p)) Outside)
-    (sym (window-lets-through width height (commandIn e .clip) (e .registers .clptl) (e .registers .clpbr) p))
+place-of-visit extent e k p h =
+    ap (throughTo extent e) h ∙ one-test (clippedOut e p) (inBuffer (extent .width) (extent .height) p) (At (placeIn (extent .width) p))
+    ∙ ap (λ t. cond t (At (placeIn (extent .width) p)) Outside)
+    (sym (window-lets-through extent (commandIn e .clip) (e .registers .clptl) (e .registers .clpbr) p))
 
-module _ (e : Engine) (width height k : ℕ) (blit : isBlit (commandIn e) ≡ true) (few : k < countOf e) where
+module _ (extent : Extent) (e : Engine) (k : ℕ) (blit : isBlit (commandIn e) ≡ true) (few : k < countOf extent e) where
   abbrev target : Point
   target = blitPoint (pointOf (e .registers .xy1)) (e .registers .xy2) (e .registers .xy3) k
 
@@ -61,33 +64,42 @@ module _ (e : Engine) (width height k : ℕ) (blit : isBlit (commandIn e) ≡ tr
   source = blitPoint (pointOf (e .registers .xy0)) (e .registers .xy2) (e .registers .xy3) k
 
   abbrev seen : Bool
-  seen = inWindow (windowIn e width height) target
+  seen = inWindow (windowIn extent e) target
 
   below : k < blitCount (e .registers .xy2)
-  below = omega (arith, few, count-is e blit)
+  below = omega (arith, few, count-is extent e blit)
 
-  visit-is : visitAt e k ≡ VisitAt target
-  unfolding visitAt
-  visit-is = rw blit (sym (blit-at (pointOf (e .registers .xy1)) (e .registers .xy2) (e .registers .xy3) k below))
+  -- the cell's pixel, from a corner on
+  from-corner : (corner : ℕ)
+      → cellVisit (pointOf corner) (e .registers .xy3) (cellAt extent e k) ≡ VisitAt (blitPoint (pointOf corner) (e .registers .xy2) (e .registers .xy3) k)
+  from-corner corner =
+      ap (cellVisit (pointOf corner) (e .registers .xy3)) (sym (cell-blit extent e k blit))
+      ∙ cell-visit (pointOf corner) (e .registers .xy2) (e .registers .xy3) k below
 
-  place-is : targetOf e width height k ≡ cond seen (At (placeIn width target)) Outside
-  place-is = place-of-visit e width height k target visit-is
+  visit-is : visitAt extent e k ≡ VisitAt target
+  visit-is = sym (position-blit e k (cellAt extent e k) blit) ∙ from-corner (e .registers .xy1)
 
-  read-at : (t : Bool) (buffer : List ℕ) (i : ℕ) → readAt e buffer (cond t (At i) Outside) ≡ cond t (keyed e (getD buffer i 0)) Nothing
+  place-is : targetOf extent e k ≡ cond seen (At (placeIn (extent .width) target)) Outside
+  place-is = place-of-visit extent e k target visit-is
+
+  read-at : (t : Bool) (buffer : List ℕ) (i : ℕ)
+      → readAt (commandIn e) (e .registers) buffer (cond t (At i) Outside) ≡ cond t (keyed (commandIn e) (e .registers) (getD buffer i 0)) Nothing
   read-at true buffer i = refl
   read-at false buffer i = refl
 
-  copied-is : (buffer : List ℕ) → copiedOf e width height k buffer ≡ cond (inBuffer width height source) (keyed e (getD buffer (placeIn width source) 0)) Nothing
+  copied-is : (buffer : List ℕ)
+      → copiedOf (commandIn e) (e .registers) extent (cellAt extent e k) buffer
+      ≡ cond (inBuffer (extent .width) (extent .height) source) (keyed (commandIn e) (e .registers) (getD buffer (placeIn (extent .width) source) 0)) Nothing
   unfolding copiedOf placeOf
   copied-is buffer =
-      ap (copiedAt e width height buffer) (sym (blit-at (pointOf (e .registers .xy0)) (e .registers .xy2) (e .registers .xy3) k below))
-      ∙ read-at (inBuffer width height source) buffer (placeIn width source)
+      ap (copiedAt (commandIn e) (e .registers) extent buffer) (from-corner (e .registers .xy0))
+      ∙ read-at (inBuffer (extent .width) (extent .height) source) buffer (placeIn (extent .width) source)
 
   stippled-is : (buffer : List ℕ)
-      → stippledOf e width height k buffer ≡ cond (inBuffer (8 * width) height source) (byBit e (bitOf width buffer source)) Nothing
+      → stippledOf (commandIn e) (e .registers) extent (cellAt extent e k) buffer
+      ≡ cond (inBuffer (8 * extent .width) (extent .height) source) (byBit (commandIn e) (e .registers) (bitOf (extent .width) buffer source)) Nothing
   unfolding stippledOf
-  stippled-is buffer =
-      ap (stippledAt e width height buffer) (sym (blit-at (pointOf (e .registers .xy0)) (e .registers .xy2) (e .registers .xy3) k below))
+  stippled-is buffer = ap (stippledAt (commandIn e) (e .registers) extent buffer) (from-corner (e .registers .xy0))
 
 -- bit x of row y is bit x mod 8 of byte x div 8: rows are whole bytes
 bit-is : (width : ℕ) (buffer : List ℕ) (p : Point) → bitOf width buffer p ≡ bitAt buffer (placeIn (8 * width) p)
@@ -118,7 +130,7 @@ ink-value e v false i l = refl
 
 -- the mark of a byte that is read, unless it is KEY
 ink-keyed : (e : Engine) (s i : ℕ) (l : List ℕ) → e .registers .key < 256
-    → inked e (keyed e s) (At i) l ≡ set l i (mixed (mixIn e) s (getD l i 0))
+    → inked e (keyed (commandIn e) (e .registers) s) (At i) l ≡ set l i (mixed (mixIn e) s (getD l i 0))
 unfolding mixed
 ink-keyed e s i l small =
     let same : e .registers .key % 256 ≡ e .registers .key = mod-eq-of-lt small in
@@ -134,7 +146,7 @@ ink-keyed e s i l small =
     (sym (ap (λ k. commandIn e .key && eqb s k) same ∙ t)))
 
 -- the mark of a bit
-ink-bit : (e : Engine) (one : Bool) (i : ℕ) (l : List ℕ) → inked e (byBit e one) (At i) l ≡ set l i (stippled (stippleIn e) one (getD l i 0))
+ink-bit : (e : Engine) (one : Bool) (i : ℕ) (l : List ℕ) → inked e (byBit (commandIn e) (e .registers) one) (At i) l ≡ set l i (stippled (stippleIn e) one (getD l i 0))
 ink-bit e true i l = ap (set l i) (value-drawn e (e .registers .fore) (getD l i 0))
 ink-bit e false i l = by (commandIn e .trnsp)
   where
@@ -156,88 +168,111 @@ ink-read e s x false u i l h = kept (cond u s Nothing)
     kept Nothing = refl
 
 -- a visit's mark, by what the blit is painted from
-module _ (e : Engine) (width height k : ℕ) (blit : isBlit (commandIn e) ≡ true) (few : k < countOf e) (small : e .registers .key < 256) where
+module _ (extent : Extent) (e : Engine) (k : ℕ) (blit : isBlit (commandIn e) ≡ true) (few : k < countOf extent e) (small : e .registers .key < 256) where
   abbrev at : ℕ
-  at = placeIn width (target e width height k blit few)
+  at = placeIn (extent .width) (target extent e k blit few)
 
   abbrev shown : Bool
-  shown = seen e width height k blit few
+  shown = seen extent e k blit few
 
   -- the source in rows of so many pixels
   abbrev from : ℕ → ℕ
-  from stride = placeIn stride (source e width height k blit few)
+  from stride = placeIn stride (source extent e k blit few)
 
   abbrev inside : ℕ → Bool
-  inside stride = inBuffer stride height (source e width height k blit few)
+  inside stride = inBuffer stride (extent .height) (source extent e k blit few)
 
   -- a visit of a blit with this paint
   abbrev marked : Paint → List ℕ → List ℕ → List ℕ
   marked paint other l =
-      let stride = sourcePixels paint width in
+      let stride = sourcePixels paint (extent .width) in
       cond (shown && (not (reads paint) || inside stride)) (set l at (painted paint other l (from stride) (getD l at 0))) l
 
   solid-marks : (l other : List ℕ)
-      → inked e (Value (e .registers .fore)) (targetOf e width height k) l
+      → inked e (Value (e .registers .fore)) (targetOf extent e k) l
       ≡ marked (Solid (penIn e (e .registers .fore))) other l
   solid-marks l other =
-      ap (λ q. inked e (Value (e .registers .fore)) q l) (place-is e width height k blit few) ∙ ink-value e (e .registers .fore) shown at l
+      ap (λ q. inked e (Value (e .registers .fore)) q l) (place-is extent e k blit few) ∙ ink-value e (e .registers .fore) shown at l
       ∙ ap₂ (λ t x. cond t (set l at x) l) (sym (and-true shown)) (value-drawn e (e .registers .fore) (getD l at 0))
 
   byte-marks : (l buffer : List ℕ)
-      → inked e (copiedOf e width height k buffer) (targetOf e width height k) l
-      ≡ cond (shown && inside width) (set l at (mixed (mixIn e) (getD buffer (from width) 0) (getD l at 0))) l
+      → inked e (copiedOf (commandIn e) (e .registers) extent (cellAt extent e k) buffer) (targetOf extent e k) l
+      ≡ cond (shown && inside (extent .width)) (set l at (mixed (mixIn e) (getD buffer (from (extent .width)) 0) (getD l at 0))) l
   byte-marks l buffer =
-      let s = getD buffer (from width) 0 in
-      ap₂ (λ s q. inked e s q l) (copied-is e width height k blit few buffer) (place-is e width height k blit few)
-      ∙ ink-read e (keyed e s) (mixed (mixIn e) s (getD l at 0)) shown (inside width) at l (ink-keyed e s at l small)
+      let s = getD buffer (from (extent .width)) 0 in
+      ap₂ (λ s q. inked e s q l) (copied-is extent e k blit few buffer) (place-is extent e k blit few)
+      ∙ ink-read e (keyed (commandIn e) (e .registers) s) (mixed (mixIn e) s (getD l at 0)) shown (inside (extent .width)) at l (ink-keyed e s at l small)
 
   bit-marks : (l buffer : List ℕ)
-      → inked e (stippledOf e width height k buffer) (targetOf e width height k) l
-      ≡ cond (shown && inside (8 * width)) (set l at (stippled (stippleIn e) (bitAt buffer (from (8 * width))) (getD l at 0))) l
+      → inked e (stippledOf (commandIn e) (e .registers) extent (cellAt extent e k) buffer) (targetOf extent e k) l
+      ≡ cond (shown && inside (8 * extent .width)) (set l at (stippled (stippleIn e) (bitAt buffer (from (8 * extent .width))) (getD l at 0))) l
   bit-marks l buffer =
-      let p = source e width height k blit few in
-      let one = bitOf width buffer p in
-      ap₂ (λ s q. inked e s q l) (stippled-is e width height k blit few buffer) (place-is e width height k blit few)
-      ∙ ink-read e (byBit e one) (stippled (stippleIn e) one (getD l at 0)) shown (inside (8 * width)) at l (ink-bit e one at l)
-      ∙ ap (λ one. cond (shown && inside (8 * width)) (set l at (stippled (stippleIn e) one (getD l at 0))) l) (bit-is width buffer p)
+      let p = source extent e k blit few in
+      let one = bitOf (extent .width) buffer p in
+      ap₂ (λ s q. inked e s q l) (stippled-is extent e k blit few buffer) (place-is extent e k blit few)
+      ∙ ink-read e (byBit (commandIn e) (e .registers) one) (stippled (stippleIn e) one (getD l at 0)) shown (inside (8 * extent .width)) at l (ink-bit e one at l)
+      ∙ ap (λ one. cond (shown && inside (8 * extent .width)) (set l at (stippled (stippleIn e) one (getD l at 0))) l) (bit-is (extent .width) buffer p)
+
+  -- bits or bytes
+  by-kind : (t : Bool) (a b : Source) (p q : Paint) (l other : List ℕ) → inked e a (targetOf extent e k) l ≡ marked p other l
+      → inked e b (targetOf extent e k) l ≡ marked q other l → inked e (cond t a b) (targetOf extent e k) l ≡ marked (cond t p q) other l
+  by-kind true a b p q l other f g = f
+  by-kind false a b p q l other f g = g
 
   -- from the other buffer, and from the one that is drawn on
-  other-marks : (l other : List ℕ) → inked e (readOf e width height k other) (targetOf e width height k) l ≡ marked (fromOther e) other l
-  other-marks l other = by-cases (commandIn e .stpl) (λ t. rw t (bit-marks l other)) (λ t. rw t (byte-marks l other))
+  other-marks : (l other : List ℕ)
+      → inked e (readOf (commandIn e) (e .registers) extent (cellAt extent e k) other) (targetOf extent e k) l ≡ marked (fromOther e) other l
+  other-marks l other =
+      let bits = stippledOf (commandIn e) (e .registers) extent (cellAt extent e k) other in
+      let bytes = copiedOf (commandIn e) (e .registers) extent (cellAt extent e k) other in
+      by-kind (commandIn e .stpl) bits bytes (Stippled (stippleIn e)) (Copied (mixIn e)) l other (bit-marks l other) (byte-marks l other)
 
-  own-marks : (l other : List ℕ) → inked e (readOf e width height k l) (targetOf e width height k) l ≡ marked (fromOwn e) other l
-  own-marks l other = by-cases (commandIn e .stpl) (λ t. rw t (bit-marks l l)) (λ t. rw t (byte-marks l l))
+  own-marks : (l other : List ℕ)
+      → inked e (readOf (commandIn e) (e .registers) extent (cellAt extent e k) l) (targetOf extent e k) l ≡ marked (fromOwn e) other l
+  own-marks l other =
+      let bits = stippledOf (commandIn e) (e .registers) extent (cellAt extent e k) l in
+      let bytes = copiedOf (commandIn e) (e .registers) extent (cellAt extent e k) l in
+      by-kind (commandIn e .stpl) bits bytes (StippledWithin (stippleIn e)) (Moved (mixIn e)) l other (bit-marks l l) (byte-marks l l)
 
   -- the mark on the buffer that is drawn on, beside the other one
   abbrev Marks : Source → List ℕ → List ℕ → Type 0
-  Marks s own other = inked e s (targetOf e width height k) own ≡ visited (blitIn e width height) other k own
+  Marks s own other = inked e s (targetOf extent e k) own ≡ visited (blitIn extent e) other k own
 
   marks-as : (paint : Paint) (s : Source) (own other : List ℕ) → paintOf e ≡ paint
-      → inked e s (targetOf e width height k) own ≡ marked paint other own → Marks s own other
+      → inked e s (targetOf extent e k) own ≡ marked paint other own → Marks s own other
   unfolding visited
   marks-as paint s own other p h = h ∙ ap (λ p. marked p other own) (sym p)
 
   -- `to` is whether the virtual buffer is drawn on
   abbrev MarksOn : Bool → List ℕ → List ℕ → Type 0
-  MarksOn to own other = Marks (sourceOf e width height k (cond to other own) (cond to own other)) own other
+  MarksOn to own other = Marks (sourceAt extent e k (cond to other own) (cond to own other)) own other
+
+  -- from a buffer that is read
+  source-marks : (from : Bool) (d v own other : List ℕ) (paint : Paint) → commandIn e .solid ≡ false → commandIn e .«from_virtual» ≡ from
+      → paintOf e ≡ paint
+      → inked e (readOf (commandIn e) (e .registers) extent (cellAt extent e k) (cond from v d)) (targetOf extent e k) own ≡ marked paint other own
+      → Marks (sourceAt extent e k d v) own other
+  source-marks from d v own other paint s f p h =
+      marks-as paint (sourceAt extent e k d v) own other p
+      (ap (λ s. inked e s (targetOf extent e k) own)
+      (sym (source-read (commandIn e) (e .registers) (e .pattern) extent (cellAt extent e k) d v s blit from f)) ∙ h)
 
   read-marks-on : (to from : Bool) (own other : List ℕ) → commandIn e .solid ≡ false → commandIn e .«to_virtual» ≡ to
       → commandIn e .«from_virtual» ≡ from → MarksOn to own other
-  unfolding sourceOf paintOf
-  read-marks-on true true own other s v f =
-      marks-as (fromOwn e) (sourceOf e width height k other own) own other (rw (s, v, f)) (rw (s, blit, f) (own-marks own other))
-  read-marks-on true false own other s v f =
-      marks-as (fromOther e) (sourceOf e width height k other own) own other (rw (s, v, f)) (rw (s, blit, f) (other-marks own other))
-  read-marks-on false true own other s v f =
-      marks-as (fromOther e) (sourceOf e width height k own other) own other (rw (s, v, f)) (rw (s, blit, f) (other-marks own other))
-  read-marks-on false false own other s v f =
-      marks-as (fromOwn e) (sourceOf e width height k own other) own other (rw (s, v, f)) (rw (s, blit, f) (own-marks own other))
+  unfolding paintOf
+  read-marks-on true true own other s v f = source-marks true other own own other (fromOwn e) s f (rw (s, v, f)) (own-marks own other)
+  read-marks-on true false own other s v f = source-marks false other own own other (fromOther e) s f (rw (s, v, f)) (other-marks own other)
+  read-marks-on false true own other s v f = source-marks true own other own other (fromOther e) s f (rw (s, v, f)) (other-marks own other)
+  read-marks-on false false own other s v f = source-marks false own other own other (fromOwn e) s f (rw (s, v, f)) (own-marks own other)
 
   pub marks-on : (to : Bool) (own other : List ℕ) → commandIn e .«to_virtual» ≡ to → MarksOn to own other
-  unfolding sourceOf paintOf
+  unfolding paintOf
   marks-on to own other v =
       by-cases (commandIn e .solid)
       (λ s.
-      marks-as (Solid (penIn e (e .registers .fore))) (sourceOf e width height k (cond to other own) (cond to own other)) own other (rw s)
-      (rw s (solid-marks own other)))
+      let d = cond to other own in
+      let w = cond to own other in
+      marks-as (Solid (penIn e (e .registers .fore))) (sourceAt extent e k d w) own other (rw s)
+      (ap (λ s. inked e s (targetOf extent e k) own)
+      (sym (source-solid (commandIn e) (e .registers) (e .pattern) extent (cellAt extent e k) d w s)) ∙ solid-marks own other))
       (λ s. read-marks-on to (commandIn e .«from_virtual») own other s v refl)

@@ -2,4 +2,4 @@ pub mod Visiting
 pub mod Blits
 pub mod Rows
 pub mod Strokes
-pub mod Stretching
+pub mod Running

@@ -19,7 +19,8 @@ use Rattle.blits.specs.Blits.{visited, windowInside, blitFits, blitted}
 use Rattle.blits.proofs.Loops.{blit-in}
 use Rattle.entries.specs.declared.fields.Command.{Command}
 use Rattle.strokes.specs.Strokes.{Dashed, dashed}
-use Rattle.commands.specs.Visits.{commandIn, isBlit, isLine, countOf}
+use Rattle.commands.specs.Visits.{commandIn, countOf}
+use Rattle.entries.specs.Fields.{isBlit, isLine}
 use Rattle.commands.specs.Steps.{patternAfter, visitsOf}
 use Rattle.commands.specs.declared.Engine.{Engine}
 use Rattle.commands.proofs.Bounds.{count-same}
@@ -27,6 +28,7 @@ use Rattle.commands.proofs.Tests.{flag-is}
 use Rattle.leaps.specs.Leaps.{penIn, mixIn, stippleIn, paintOf, blitIn, movedTo, movedBy, canLeap, goesByRows}
 use Rattle.leaps.proofs.Visiting.{sceneOn, Marked, visits-are, Leaps, leaps-of}
 use Rattle.leaps.proofs.Blits.{count-is, marks-on}
+use Rattle.geometry.specs.declared.Extent.{Extent}
 
 not-line : (c : Command) → isBlit c ≡ true → isLine c ≡ false
 not-line c h = ap (λ n. eqb n 2 || eqb n 5) (eqb-true (c .opcode) 1 h)
@@ -35,79 +37,83 @@ pattern-stays : (e : Engine) → isBlit (commandIn e) ≡ true → patternAfter 
 unfolding patternAfter
 pattern-stays e h = rw (not-line (commandIn e) h)
 
-same-blit : (e : Engine) (k width height : ℕ) → blitIn (movedTo e k (e .pattern)) width height ≡ blitIn e width height
+same-blit : (extent : Extent) (e : Engine) (k : ℕ) → blitIn extent (movedTo e k (e .pattern)) ≡ blitIn extent e
 unfolding paintOf
-same-blit e k width height = refl
+same-blit extent e k = refl
 
-module _ (e : Engine) (width height : ℕ) (blit : isBlit (commandIn e) ≡ true) (small : e .registers .key < 256) (own other : List ℕ) where
+module _ (extent : Extent) (e : Engine) (blit : isBlit (commandIn e) ≡ true) (small : e .registers .key < 256) (own other : List ℕ) where
   -- after k visits; the pattern stays
   abbrev rowState : ℕ → Dashed
-  rowState k = dashed (inTurn (λ i. visited (blitIn e width height) other (e .visited + i)) k own) (e .pattern)
+  rowState k = dashed (inTurn (λ i. visited (blitIn extent e) other (e .visited + i)) k own) (e .pattern)
 
-  rows-marked : (to : Bool) → commandIn e .«to_virtual» ≡ to → Marked e width height to other rowState
+  rows-marked : (to : Bool) → commandIn e .«to_virtual» ≡ to → Marked extent e to other rowState
   unfolding inTurn
   rows-marked to v =
       record {
         buffers =
             λ k few.
             let f = movedTo e k (e .pattern) in
-            marks-on f width height (e .visited + k) blit (omega (arith, few, count-same f e refl refl)) small to (rowState k .buffer) other v
-            ∙ ap (λ b. visited b other (e .visited + k) (rowState k .buffer)) (same-blit e k width height);
+            marks-on extent f (e .visited + k) blit (omega (arith, few, count-same extent f e refl refl)) small to (rowState k .buffer) other v
+            ∙ ap (λ b. visited b other (e .visited + k) (rowState k .buffer)) (same-blit extent e k);
         patterns = λ k few. pattern-stays (movedTo e k (e .pattern)) blit;
       }
 
 -- a window lies in its buffer
-window-inside : (width height : ℕ) (clip : Bool) (a b : ℕ) → windowInside width height (windowOf width height clip a b) ≡ true
+window-inside : (extent : Extent) (clip : Bool) (a b : ℕ) → windowInside (extent .width) (extent .height) (windowOf extent clip a b) ≡ true
 unfolding windowOf
-window-inside width height true a b =
+window-inside extent true a b =
+    let width = extent .width in
+    let height = extent .height in
     both
     (both (both (le-leb origin (max origin (rectOf a b .left)) (omega arith)) (le-leb (min (origin + width) (rectOf a b .right + 1)) (origin + width) (omega arith)))
     (le-leb origin (max origin (rectOf a b .top)) (omega arith)))
     (le-leb (min (origin + height) (rectOf a b .bottom + 1)) (origin + height) (omega arith))
-window-inside width height false a b =
+window-inside extent false a b =
+    let width = extent .width in
+    let height = extent .height in
     both
     (both (both (le-leb origin origin (omega arith)) (le-leb (origin + width) (origin + width) (omega arith))) (le-leb origin origin (omega arith)))
     (le-leb (origin + height) (origin + height) (omega arith))
 
 -- what lets visits go by rows
-pub record Goes (e : Engine) (n width height display virt : ℕ) : Type 0 where
-  pub leaps : Leaps e n width height display virt
+pub record Goes (extent : Extent) (e : Engine) (n display virt : ℕ) : Type 0 where
+  pub leaps : Leaps extent e n display virt
   pub blit : isBlit (commandIn e) ≡ true
   pub key-small : e .registers .key < 256
 
-pub goes-of : (e : Engine) (n width height display virt : ℕ) → goesByRows e n width height display virt ≡ true → Goes e n width height display virt
+pub goes-of : (extent : Extent) (e : Engine) (n display virt : ℕ) → goesByRows extent e n display virt ≡ true → Goes extent e n display virt
 unfolding goesByRows
-goes-of e n width height display virt h =
-    let c1 = canLeap e n width height display virt in
+goes-of extent e n display virt h =
+    let c1 = canLeap extent e n display virt in
     let c2 = isBlit (commandIn e) in
     let c3 = ltb (e .registers .key) 256 in
     let h2 = and-left (c1 && c2) c3 h in
     record {
-      leaps = leaps-of e n width height display virt (and-left c1 c2 h2);
+      leaps = leaps-of extent e n display virt (and-left c1 c2 h2);
       blit = and-right c1 c2 h2;
       key-small = ltb-true (e .registers .key) 256 (and-right (c1 && c2) c3 h);
     }
 
-fits : (e : Engine) (n width height own other : ℕ) → isBlit (commandIn e) ≡ true → e .visited + n ≤ countOf e → own ≡ width * height
-    → other ≡ width * height → blitFits (blitIn e width height) (e .visited) n other own ≡ true
-fits e n width height own other blit few p q =
+fits : (extent : Extent) (e : Engine) (n own other : ℕ) → isBlit (commandIn e) ≡ true → e .visited + n ≤ countOf extent e → own ≡ extent .width * extent .height
+    → other ≡ extent .width * extent .height → blitFits (blitIn extent e) (e .visited) n other own ≡ true
+fits extent e n own other blit few p q =
     both
-    (both (both (eq-eqb own (width * height) p) (eq-eqb other (width * height) q))
-    (window-inside width height (commandIn e .clip) (e .registers .clptl) (e .registers .clpbr)))
-    (le-leb (e .visited + n) (blitCount (e .registers .xy2)) (omega (arith, few, count-is e blit)))
+    (both (both (eq-eqb own (extent .width * extent .height) p) (eq-eqb other (extent .width * extent .height) q))
+    (window-inside extent (commandIn e .clip) (e .registers .clptl) (e .registers .clpbr)))
+    (le-leb (e .visited + n) (blitCount (e .registers .xy2)) (omega (arith, few, count-is extent e blit)))
 
 -- n visits, from what the row loops did on the buffer that is drawn on
-module _ (e : Engine) (n width height display virt : ℕ) (g : Goes e n width height display virt) (f : Engine) (moved : f ≡ movedBy e n (e .pattern)) where
-  pub rows-are : (to : Bool) (own other : List ℕ) → length own ≡ width * height → length other ≡ width * height
-      → commandIn e .«to_virtual» ≡ to → (m : List ℕ) → m ≡ blitted (blitIn e width height) (e .visited) n other own
-      → sceneOn f to m other ≡ visitsOf n width height (sceneOn e to own other)
+module _ (extent : Extent) (e : Engine) (n display virt : ℕ) (g : Goes extent e n display virt) (f : Engine) (moved : f ≡ movedBy extent e n (e .pattern)) where
+  pub rows-are : (to : Bool) (own other : List ℕ) → length own ≡ extent .width * extent .height → length other ≡ extent .width * extent .height
+      → commandIn e .«to_virtual» ≡ to → (m : List ℕ) → m ≡ blitted (blitIn extent e) (e .visited) n other own
+      → sceneOn f to m other ≡ visitsOf n extent (sceneOn e to own other)
   unfolding inTurn
   rows-are to own other own-long other-long v m h =
-      let b = blitIn e width height in
-      let same = h ∙ sym (blit-in b (e .visited) n other own (fits e n width height (length own) (length other) (g .blit) (g .leaps .few) own-long other-long)) in
+      let b = blitIn extent e in
+      let same = h ∙ sym (blit-in b (e .visited) n other own (fits extent e n (length own) (length other) (g .blit) (g .leaps .few) own-long other-long)) in
       (λ i. sceneOn (moved i) to (same i) other)
-      ∙ sym (visits-are e width height to other (rowState e width height (g .blit) (g .key-small) own other) v (g .leaps .under-way) (g .leaps .some) refl
-      (rows-marked e width height (g .blit) (g .key-small) own other to v) n (g .leaps .few))
+      ∙ sym (visits-are extent e to other (rowState extent e (g .blit) (g .key-small) own other) v (g .leaps .under-way) (g .leaps .some) refl
+      (rows-marked extent e (g .blit) (g .key-small) own other to v) n (g .leaps .few))
 
 -- whether one buffer is read and drawn on
 same-buffer : (to from within : Bool) (own other : Paint) → (to && from || not to && not from) ≡ within

@@ -1,6 +1,6 @@
 -- Many visits of a line are the pixels that the line loops draw.
 -- Assumes nothing.
-use mathlib.Core.Path.{_≡_, refl, ap, sym, _∙_}
+use mathlib.Core.Path.{_≡_, refl, ap, ap₂, sym, _∙_}
 use mathlib.Core.Bool.{Bool, true, false, not, cond, _&&_, _||_, false≢true}
 use mathlib.Core.List.{List}
 use Prim.Native.Nat.{ℕ, _+_, _-_, _*_, _≤_, _<_, min, max}
@@ -24,14 +24,18 @@ use Rattle.registers.specs.Patterns.{patternBit}
 use Rattle.registers.specs.declared.dashes.Pattern.{Pattern}
 use Rattle.strokes.specs.Strokes.{plotted, pixelsOf, windowFits, strokeFits, strokeOf, Dashed, dashed, dash, dashPixels, dashesOf}
 use Rattle.strokes.proofs.Drawn.{stroke-fit, dashes-fit}
-use Rattle.commands.specs.Visits.{commandIn, isBlit, isLine, lineStart, countOf, visitAt, targetOf}
-use Rattle.commands.specs.Sources.{dashOf, sourceOf}
+use Rattle.commands.specs.Visits.{commandIn, lineStart, countOf, cellAt, visitAt, targetOf, sourceAt}
+use Rattle.commands.proofs.Tests.{count-line, position-line}
+use Rattle.sources.proofs.Reading.{source-solid, source-dash}
+use Rattle.entries.specs.Fields.{isBlit, isLine}
+use Rattle.sources.specs.Sources.{dashOf}
 use Rattle.commands.specs.Steps.{inked, patternAfter, visitsOf}
 use Rattle.commands.specs.declared.Engine.{Engine}
-use Rattle.commands.specs.declared.Source.the-variants.{Value, Nothing}
+use Rattle.sources.specs.declared.Source.the-variants.{Value, Nothing}
 use Rattle.leaps.specs.Leaps.{movedTo, movedBy, penIn, dashesIn, windowIn, strokeIn, canLeap, goesByStroke}
 use Rattle.leaps.proofs.Visiting.{sceneOn, Marked, visits-are, Leaps, leaps-of}
 use Rattle.leaps.proofs.Blits.{place-of-visit, code-small, ink-value}
+use Rattle.geometry.specs.declared.Extent.{Extent}
 
 -- a line is no blit
 not-blit : (c : Command) → isLine c ≡ true → isBlit c ≡ false
@@ -40,47 +44,48 @@ not-blit c h =
     (λ t. absurd (false≢true (sym (ap (λ n. eqb n 2 || eqb n 5) (eqb-true (c .opcode) 1 t)) ∙ h)))
     (λ t. t)
 
-count-is : (e : Engine) → isLine (commandIn e) ≡ true → countOf e ≡ lineCount (pointOf (lineStart e)) (pointOf (e .registers .xy1)) (commandIn e .nlst)
-unfolding countOf
-count-is e h = rw (not-blit (commandIn e) h, h)
+count-is : (extent : Extent) (e : Engine) → isLine (commandIn e) ≡ true → countOf extent e ≡ lineCount (pointOf (lineStart e)) (pointOf (e .registers .xy1)) (commandIn e .nlst)
+count-is extent e h = sym (count-line extent e (not-blit (commandIn e) h) h)
 
 -- the mark of a value is a pixel plotted with its pen
-ink-plots : (e : Engine) (v width height : ℕ) (p : Point) (l : List ℕ) →
-    let w = windowIn e width height in
-    inked e (Value v) (cond (inWindow w p) (At (placeIn width p)) Outside) l ≡ plotted width w (penIn e v) p l
+ink-plots : (extent : Extent) (e : Engine) (v : ℕ) (p : Point) (l : List ℕ) →
+    let w = windowIn extent e in
+    inked e (Value v) (cond (inWindow w p) (At (placeIn (extent .width) p)) Outside) l ≡ plotted (extent .width) w (penIn e v) p l
 unfolding plotted
-ink-plots e v width height p l =
-    let w = windowIn e width height in
-    let i = placeIn width p in
+ink-plots extent e v p l =
+    let w = windowIn extent e in
+    let i = placeIn (extent .width) p in
     ink-value e v (inWindow w p) i l
     ∙ ap (λ x. cond (inWindow w p) (set l i x) l) (sym (pen-as (commandIn e .code) (e .registers .mask) (code-small e) v (getD l i 0)))
 
-module _ (e : Engine) (width height : ℕ) (line : isLine (commandIn e) ≡ true) where
+module _ (extent : Extent) (e : Engine) (line : isLine (commandIn e) ≡ true) where
   abbrev point : ℕ → Point
   point k = linePoint (pointOf (lineStart e)) (pointOf (e .registers .xy1)) (e .visited + k)
 
   abbrev window : Window
-  window = windowIn e width height
+  window = windowIn extent e
 
-  module _ (k : ℕ) (q : Pattern) (few : e .visited + k < countOf e) where
+  module _ (k : ℕ) (q : Pattern) (few : e .visited + k < countOf extent e) where
     abbrev here : Engine
     here = movedTo e k q
 
-    visit-is : visitAt here (e .visited + k) ≡ VisitAt (point k)
-    unfolding visitAt
+    visit-is : visitAt extent here (e .visited + k) ≡ VisitAt (point k)
     visit-is =
-        rw (not-blit (commandIn e) line, line)
-        (sym (line-at (pointOf (lineStart e)) (pointOf (e .registers .xy1)) (commandIn e .nlst) (e .visited + k) (omega (arith, few, count-is e line))))
+        sym (position-line here (e .visited + k) (cellAt extent here (e .visited + k)) (not-blit (commandIn e) line) line)
+        ∙ sym (line-at (pointOf (lineStart e)) (pointOf (e .registers .xy1)) (commandIn e .nlst) (e .visited + k) (omega (arith, few, count-is extent e line)))
 
-    place-is : targetOf here width height (e .visited + k) ≡ cond (inWindow window (point k)) (At (placeIn width (point k))) Outside
-    place-is = place-of-visit here width height (e .visited + k) (point k) visit-is
+    place-is : targetOf extent here (e .visited + k) ≡ cond (inWindow window (point k)) (At (placeIn (extent .width) (point k))) Outside
+    place-is = place-of-visit extent here (e .visited + k) (point k) visit-is
 
     -- with SOLID
     solid-mark : commandIn e .solid ≡ true → (d v l : List ℕ)
-        → inked here (sourceOf here width height (e .visited + k) d v) (targetOf here width height (e .visited + k)) l
-        ≡ plotted width window (penIn e (e .registers .fore)) (point k) l
-    unfolding sourceOf
-    solid-mark s d v l = rw s (ap (λ p. inked here (Value (e .registers .fore)) p l) place-is ∙ ink-plots here (e .registers .fore) width height (point k) l)
+        → inked here (sourceAt extent here (e .visited + k) d v) (targetOf extent here (e .visited + k)) l
+        ≡ plotted (extent .width) window (penIn e (e .registers .fore)) (point k) l
+    solid-mark s d v l =
+        ap₂ (λ o p. inked here o p l)
+        (sym (source-solid (commandIn here) (here .registers) (here .pattern) extent (cellAt extent here (e .visited + k)) d v s))
+        place-is
+        ∙ ink-plots extent here (e .registers .fore) (point k) l
 
     solid-pattern : commandIn e .solid ≡ true → patternAfter here ≡ q
     unfolding patternAfter
@@ -88,40 +93,37 @@ module _ (e : Engine) (width height : ℕ) (line : isLine (commandIn e) ≡ true
 
     -- in dashes
     dash-mark : commandIn e .solid ≡ false → (d v l : List ℕ)
-        → inked here (sourceOf here width height (e .visited + k) d v) (targetOf here width height (e .visited + k)) l
-        ≡ dash width window (dashesIn e) (point k) (dashed l q) .buffer
-    unfolding sourceOf dashOf dash
+        → inked here (sourceAt extent here (e .visited + k) d v) (targetOf extent here (e .visited + k)) l
+        ≡ dash (extent .width) window (dashesIn e) (point k) (dashed l q) .buffer
+    unfolding dashOf dash
     dash-mark s d v l =
-        rw (s, not-blit (commandIn e) line)
-        (ap
-        (λ p.
-        inked here
-        (cond (patternBit (e .registers .lpat) q) (Value (e .registers .fore)) (cond (commandIn e .trnsp) Nothing (Value (e .registers .back)))) p l)
+        ap₂ (λ o p. inked here o p l)
+        (sym (source-dash (commandIn here) (here .registers) (here .pattern) extent (cellAt extent here (e .visited + k)) d v s (not-blit (commandIn e) line)))
         place-is
-        ∙ by (patternBit (e .registers .lpat) q) (commandIn e .trnsp))
+        ∙ by (patternBit (e .registers .lpat) q) (commandIn e .trnsp)
       where
         by : (b t : Bool)
             → inked here (cond b (Value (e .registers .fore)) (cond t Nothing (Value (e .registers .back))))
-            (cond (inWindow window (point k)) (At (placeIn width (point k))) Outside) l
-            ≡ cond (not b && t) l (plotted width window (cond b (penIn e (e .registers .fore)) (penIn e (e .registers .back))) (point k) l)
-        by true t = ink-plots here (e .registers .fore) width height (point k) l
+            (cond (inWindow window (point k)) (At (placeIn (extent .width) (point k))) Outside) l
+            ≡ cond (not b && t) l (plotted (extent .width) window (cond b (penIn e (e .registers .fore)) (penIn e (e .registers .back))) (point k) l)
+        by true t = ink-plots extent here (e .registers .fore) (point k) l
         by false true = refl
-        by false false = ink-plots here (e .registers .back) width height (point k) l
+        by false false = ink-plots extent here (e .registers .back) (point k) l
 
     dash-pattern : commandIn e .solid ≡ false → (l : List ℕ)
-        → patternAfter here ≡ dash width window (dashesIn e) (point k) (dashed l q) .pattern
+        → patternAfter here ≡ dash (extent .width) window (dashesIn e) (point k) (dashed l q) .pattern
     unfolding patternAfter dash
     dash-pattern s l = rw (line, s)
 
   -- the two kinds of strokes
   abbrev solidState : List ℕ → ℕ → Dashed
   solidState l k =
-      dashed (pixelsOf width window (penIn e (e .registers .fore)) (pointOf (lineStart e)) (pointOf (e .registers .xy1)) (e .visited) k l) (e .pattern)
+      dashed (pixelsOf (extent .width) window (penIn e (e .registers .fore)) (pointOf (lineStart e)) (pointOf (e .registers .xy1)) (e .visited) k l) (e .pattern)
 
   abbrev dashState : List ℕ → ℕ → Dashed
-  dashState l k = dashPixels width window (dashesIn e) (pointOf (lineStart e)) (pointOf (e .registers .xy1)) (e .visited) k (dashed l (e .pattern))
+  dashState l k = dashPixels (extent .width) window (dashesIn e) (pointOf (lineStart e)) (pointOf (e .registers .xy1)) (e .visited) k (dashed l (e .pattern))
 
-  solid-strokes : commandIn e .solid ≡ true → (to : Bool) (other l : List ℕ) → Marked e width height to other (solidState l)
+  solid-strokes : commandIn e .solid ≡ true → (to : Bool) (other l : List ℕ) → Marked extent e to other (solidState l)
   unfolding pixelsOf
   solid-strokes s to other l =
       record {
@@ -131,7 +133,7 @@ module _ (e : Engine) (width height : ℕ) (line : isLine (commandIn e) ≡ true
         patterns = λ k few. solid-pattern k (e .pattern) few s;
       }
 
-  dash-strokes : commandIn e .solid ≡ false → (to : Bool) (other l : List ℕ) → Marked e width height to other (dashState l)
+  dash-strokes : commandIn e .solid ≡ false → (to : Bool) (other l : List ℕ) → Marked extent e to other (dashState l)
   unfolding dashPixels
   dash-strokes s to other l =
       record {
@@ -143,26 +145,26 @@ module _ (e : Engine) (width height : ℕ) (line : isLine (commandIn e) ≡ true
       }
 
 -- what lets visits go by a stroke
-pub record Goes (e : Engine) (n width height display virt : ℕ) : Type 0 where
-  pub leaps : Leaps e n width height display virt
+pub record Goes (extent : Extent) (e : Engine) (n display virt : ℕ) : Type 0 where
+  pub leaps : Leaps extent e n display virt
   pub line : isLine (commandIn e) ≡ true
-  pub long : 1 < countOf e
-  pub tall : height ≤ 65536
+  pub long : 1 < countOf extent e
+  pub tall : extent .height ≤ 65536
 
-pub goes-of : (e : Engine) (n width height display virt : ℕ) → goesByStroke e n width height display virt ≡ true → Goes e n width height display virt
+pub goes-of : (extent : Extent) (e : Engine) (n display virt : ℕ) → goesByStroke extent e n display virt ≡ true → Goes extent e n display virt
 unfolding goesByStroke
-goes-of e n width height display virt h =
-    let c1 = canLeap e n width height display virt in
+goes-of extent e n display virt h =
+    let c1 = canLeap extent e n display virt in
     let c2 = isLine (commandIn e) in
-    let c3 = ltb 1 (countOf e) in
-    let c4 = leb height 65536 in
+    let c3 = ltb 1 (countOf extent e) in
+    let c4 = leb (extent .height) 65536 in
     let h3 = and-left (c1 && c2 && c3) c4 h in
     let h2 = and-left (c1 && c2) c3 h3 in
     record {
-      leaps = leaps-of e n width height display virt (and-left c1 c2 h2);
+      leaps = leaps-of extent e n display virt (and-left c1 c2 h2);
       line = and-right c1 c2 h2;
-      long = ltb-true 1 (countOf e) (and-right (c1 && c2) c3 h3);
-      tall = leb-true height 65536 (and-right (c1 && c2 && c3) c4 h);
+      long = ltb-true 1 (countOf extent e) (and-right (c1 && c2) c3 h3);
+      tall = leb-true (extent .height) 65536 (and-right (c1 && c2 && c3) c4 h);
     }
 
 -- a window fits its buffer
@@ -170,10 +172,12 @@ bounded : (width height bottom : ℕ) → bottom ≤ origin + height → (bottom
 bounded width height bottom h =
     omega (arith, mul-comm (bottom - origin) width, mul-le-mul-left {m = bottom - origin} {n = height} width (omega (arith, h)))
 
-window-fits : (width height : ℕ) (clip : Bool) (a b long : ℕ) → height ≤ 65536 → long ≡ width * height
-    → windowFits width (windowOf width height clip a b) long ≡ true
+window-fits : (extent : Extent) (clip : Bool) (a b long : ℕ) → extent .height ≤ 65536 → long ≡ extent .width * extent .height
+    → windowFits (extent .width) (windowOf extent clip a b) long ≡ true
 unfolding windowOf
-window-fits width height true a b long tall e =
+window-fits extent true a b long tall e =
+    let width = extent .width in
+    let height = extent .height in
     let bottom = min (origin + height) (rectOf a b .bottom + 1) in
     both
     (both
@@ -181,65 +185,67 @@ window-fits width height true a b long tall e =
     (le-leb origin (max origin (rectOf a b .top)) (omega arith)))
     (le-leb bottom (origin + 65536) (omega (arith, tall))))
     (le-leb ((bottom - origin) * width) long (rw e (bounded width height bottom (omega arith))))
-window-fits width height false a b long tall e =
+window-fits extent false a b long tall e =
+    let width = extent .width in
+    let height = extent .height in
     both
     (both
     (both (both (le-leb origin origin (omega arith)) (le-leb (origin + width) (origin + width) (omega arith))) (le-leb origin origin (omega arith)))
     (le-leb (origin + height) (origin + 65536) (omega (arith, tall))))
     (le-leb ((origin + height - origin) * width) long (rw e (bounded width height (origin + height) (omega arith))))
 
-stroke-fits : (e : Engine) (n width height display virt long : ℕ) → Goes e n width height display virt → long ≡ width * height
-    → strokeFits width (windowIn e width height) (pointOf (lineStart e)) (pointOf (e .registers .xy1)) (e .visited) n long ≡ true
-stroke-fits e n width height display virt long g h =
+stroke-fits : (extent : Extent) (e : Engine) (n display virt long : ℕ) → Goes extent e n display virt → long ≡ extent .width * extent .height
+    → strokeFits (extent .width) (windowIn extent e) (pointOf (lineStart e)) (pointOf (e .registers .xy1)) (e .visited) n long ≡ true
+stroke-fits extent e n display virt long g h =
     let a = pointOf (lineStart e) in
     let b = pointOf (e .registers .xy1) in
     both
-    (both (window-fits width height (commandIn e .clip) (e .registers .clptl) (e .registers .clpbr) long (g .tall) h)
-    (lt-ltb 0 (stepsOf a b) (omega (arith, g .long, count-is e (g .line), count-le a b (commandIn e .nlst)))))
-    (le-leb (e .visited + n) (stepsOf a b + 1) (omega (arith, g .leaps .few, count-is e (g .line), count-le a b (commandIn e .nlst))))
+    (both (window-fits extent (commandIn e .clip) (e .registers .clptl) (e .registers .clpbr) long (g .tall) h)
+    (lt-ltb 0 (stepsOf a b) (omega (arith, g .long, count-is extent e (g .line), count-le a b (commandIn e .nlst)))))
+    (le-leb (e .visited + n) (stepsOf a b + 1) (omega (arith, g .leaps .few, count-is extent e (g .line), count-le a b (commandIn e .nlst))))
 
 -- n visits, from what the line loops did on the buffer that is drawn on
-module _ (e : Engine) (n width height display virt : ℕ) (g : Goes e n width height display virt) (s : Dashed) (f : Engine)
-    (moved : f ≡ movedBy e n (s .pattern)) (to : Bool) (drawn : commandIn e .«to_virtual» ≡ to) (own other : List ℕ)
-    (own-long : length own ≡ width * height) where
+module _ (extent : Extent) (e : Engine) (n display virt : ℕ) (g : Goes extent e n display virt) (s : Dashed) (f : Engine)
+    (moved : f ≡ movedBy extent e n (s .pattern)) (to : Bool) (drawn : commandIn e .«to_virtual» ≡ to) (own other : List ℕ)
+    (own-long : length own ≡ extent .width * extent .height) where
   -- the states that the visits leave
-  visits-to : (t : ℕ → Dashed) → t 0 ≡ dashed own (e .pattern) → Marked e width height to other t → s ≡ t n
-      → sceneOn f to (s .buffer) other ≡ visitsOf n width height (sceneOn e to own other)
+  visits-to : (t : ℕ → Dashed) → t 0 ≡ dashed own (e .pattern) → Marked extent e to other t → s ≡ t n
+      → sceneOn f to (s .buffer) other ≡ visitsOf n extent (sceneOn e to own other)
   visits-to t start marked is =
-      (λ i. sceneOn ((moved ∙ ap (λ (s : Dashed). movedBy e n (s .pattern)) is) i) to (is i .buffer) other)
-      ∙ sym (visits-are e width height to other t drawn (g .leaps .under-way) (g .leaps .some) (ap (λ (s : Dashed). s .pattern) start) marked n (g .leaps .few))
-      ∙ ap (λ (s : Dashed). visitsOf n width height (sceneOn e to (s .buffer) other)) start
+      (λ i. sceneOn ((moved ∙ ap (λ (s : Dashed). movedBy extent e n (s .pattern)) is) i) to (is i .buffer) other)
+      ∙ sym (visits-are extent e to other t drawn (g .leaps .under-way) (g .leaps .some) (ap (λ (s : Dashed). s .pattern) start) marked n (g .leaps .few))
+      ∙ ap (λ (s : Dashed). visitsOf n extent (sceneOn e to (s .buffer) other)) start
 
-  pub stroke-is : s ≡ strokeIn e width height n own → sceneOn f to (s .buffer) other ≡ visitsOf n width height (sceneOn e to own other)
+  pub stroke-is : s ≡ strokeIn extent e n own → sceneOn f to (s .buffer) other ≡ visitsOf n extent (sceneOn e to own other)
   unfolding strokeIn pixelsOf dashPixels
   stroke-is h =
       let a = pointOf (lineStart e) in
       let b = pointOf (e .registers .xy1) in
-      let w = windowIn e width height in
+      let w = windowIn extent e in
       let pen = penIn e (e .registers .fore) in
-      let fit = stroke-fits e n width height display virt (length own) g own-long in
-      let line = dashed (strokeOf width w pen a b (e .visited) n own) (e .pattern) in
-      let dotted = dashesOf width w (dashesIn e) a b (e .visited) n (dashed own (e .pattern)) in
+      let fit = stroke-fits extent e n display virt (length own) g own-long in
+      let line = dashed (strokeOf (extent .width) w pen a b (e .visited) n own) (e .pattern) in
+      let dotted = dashesOf (extent .width) w (dashesIn e) a b (e .visited) n (dashed own (e .pattern)) in
       by-cases (commandIn e .solid)
       (λ t.
-      visits-to (solidState e width height (g .line) own) refl (solid-strokes e width height (g .line) t to other own)
-      (h ∙ ap (λ t. cond t line dotted) t ∙ ap (λ m. dashed m (e .pattern)) (sym (stroke-fit width w pen a b (e .visited) n own _ fit refl))))
+      visits-to (solidState extent e (g .line) own) refl (solid-strokes extent e (g .line) t to other own)
+      (h ∙ ap (λ t. cond t line dotted) t ∙ ap (λ m. dashed m (e .pattern)) (sym (stroke-fit (extent .width) w pen a b (e .visited) n own _ fit refl))))
       (λ t.
-      visits-to (dashState e width height (g .line) own) refl (dash-strokes e width height (g .line) t to other own)
-      (h ∙ ap (λ t. cond t line dotted) t ∙ sym (dashes-fit width w (dashesIn e) a b (e .visited) n (dashed own (e .pattern)) _ fit refl)))
+      visits-to (dashState extent e (g .line) own) refl (dash-strokes extent e (g .line) t to other own)
+      (h ∙ ap (λ t. cond t line dotted) t ∙ sym (dashes-fit (extent .width) w (dashesIn e) a b (e .visited) n (dashed own (e .pattern)) _ fit refl)))
 
 -- the two kinds of strokes, by the decoded command
-module _ (e : Engine) (c : Command) (is : c ≡ commandIn e) (width height n : ℕ) (l : List ℕ) where
+module _ (extent : Extent) (e : Engine) (c : Command) (is : c ≡ commandIn e) (n : ℕ) (l : List ℕ) where
   pub stroke-solid : c .solid ≡ true → (m : List ℕ)
-      → m ≡ strokeOf width (windowIn e width height) (penIn e (e .registers .fore)) (pointOf (lineStart e)) (pointOf (e .registers .xy1)) (e .visited) n l
-      → dashed m (e .pattern) ≡ strokeIn e width height n l
+      → m ≡ strokeOf (extent .width) (windowIn extent e) (penIn e (e .registers .fore)) (pointOf (lineStart e)) (pointOf (e .registers .xy1)) (e .visited) n l
+      → dashed m (e .pattern) ≡ strokeIn extent e n l
   unfolding strokeIn
   stroke-solid s m h =
       let t : commandIn e .solid ≡ true = ap (λ (c : Command). c .solid) (sym is) ∙ s in
       rw t (ap (λ m. dashed m (e .pattern)) h)
 
   pub stroke-dashes : c .solid ≡ false → (r : Dashed)
-      → r ≡ dashesOf width (windowIn e width height) (dashesIn e) (pointOf (lineStart e)) (pointOf (e .registers .xy1)) (e .visited) n (dashed l (e .pattern))
-      → r ≡ strokeIn e width height n l
+      → r ≡ dashesOf (extent .width) (windowIn extent e) (dashesIn e) (pointOf (lineStart e)) (pointOf (e .registers .xy1)) (e .visited) n (dashed l (e .pattern))
+      → r ≡ strokeIn extent e n l
   unfolding strokeIn
   stroke-dashes s r h = let t : commandIn e .solid ≡ false = ap (λ (c : Command). c .solid) (sym is) ∙ s in rw t h

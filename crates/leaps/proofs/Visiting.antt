@@ -10,30 +10,31 @@ use lib.Dec.{eqb, ltb, leb}
 use Rattle.lemmas.proofs.Booleans.{by-cases, and-left, and-right}
 use Rattle.registers.specs.declared.dashes.Pattern.{Pattern}
 use Rattle.strokes.specs.Strokes.{Dashed}
-use Rattle.commands.specs.Visits.{commandIn, countOf, targetOf}
-use Rattle.commands.specs.Sources.{sourceOf}
+use Rattle.commands.specs.Visits.{commandIn, countOf, targetOf, sourceAt}
+use Rattle.sources.specs.Sources.{sourceOf}
 use Rattle.commands.specs.Steps.{Scene, scene, inked, patternAfter, advancedOf, visitOf, visitsOf}
 use Rattle.commands.specs.declared.Engine.{Engine}
 use Rattle.commands.proofs.Bounds.{count-same}
 use Rattle.leaps.specs.Leaps.{movedTo, finishedAt, movedBy, canLeap}
+use Rattle.geometry.specs.declared.Extent.{Extent}
 
 -- An engine beside the buffer that it draws on, which is the virtual one where `to` is true, and the other one.
 abbrev pub sceneOn : Engine → Bool → List ℕ → List ℕ → Scene
 sceneOn e to own other = scene e (cond to other own) (cond to own other)
 
-visit-on : (width height : ℕ) (f : Engine) (to : Bool) (own other : List ℕ) → commandIn f .«to_virtual» ≡ to →
-    let at = targetOf f width height (f .visited) in
-    let s = sourceOf f width height (f .visited) (cond to other own) (cond to own other) in
-    visitOf width height (sceneOn f to own other) ≡ sceneOn (advancedOf f) to (inked f s at own) other
+visit-on : (extent : Extent) (f : Engine) (to : Bool) (own other : List ℕ) → commandIn f .«to_virtual» ≡ to →
+    let at = targetOf extent f (f .visited) in
+    let s = sourceAt extent f (f .visited) (cond to other own) (cond to own other) in
+    visitOf extent (sceneOn f to own other) ≡ sceneOn (advancedOf extent f) to (inked f s at own) other
 unfolding visitOf
-visit-on width height f true own other v =
-    let at = targetOf f width height (f .visited) in
-    let s = sourceOf f width height (f .visited) other own in
-    ap (λ t. scene (advancedOf f) (cond t other (inked f s at other)) (cond t (inked f s at own) own)) v
-visit-on width height f false own other v =
-    let at = targetOf f width height (f .visited) in
-    let s = sourceOf f width height (f .visited) own other in
-    ap (λ t. scene (advancedOf f) (cond t own (inked f s at own)) (cond t (inked f s at other) other)) v
+visit-on extent f true own other v =
+    let at = targetOf extent f (f .visited) in
+    let s = sourceAt extent f (f .visited) other own in
+    ap (λ t. scene (advancedOf extent f) (cond t other (inked f s at other)) (cond t (inked f s at own) own)) v
+visit-on extent f false own other v =
+    let at = targetOf extent f (f .visited) in
+    let s = sourceAt extent f (f .visited) own other in
+    ap (λ t. scene (advancedOf extent f) (cond t own (inked f s at own)) (cond t (inked f s at other) other)) v
 
 same-test : (v m c : ℕ) → v + m < c → ltb (v + m + 1) c ≡ ltb (suc m) (c - v)
 same-test v m c h =
@@ -41,19 +42,19 @@ same-test v m c h =
     (λ t. let k = ltb-true (suc m) (c - v) t in rw (t, lt-ltb (v + m + 1) c (omega arith)))
     (λ t. let k = ltb-false (suc m) (c - v) t in rw (t, le-ltb (v + m + 1) c (omega arith)))
 
-module _ (e : Engine) where
-  pub moved-within : (m : ℕ) (q : Pattern) → e .visited + m < countOf e → movedBy e m q ≡ movedTo e m q
+module _ (extent : Extent) (e : Engine) where
+  pub moved-within : (m : ℕ) (q : Pattern) → e .visited + m < countOf extent e → movedBy extent e m q ≡ movedTo e m q
   unfolding movedBy
   moved-within m q h =
-      ap (λ t. cond t (movedTo e m q) (finishedAt e q)) (lt-ltb m (countOf e - e .visited) (omega (arith, h)))
+      ap (λ t. cond t (movedTo e m q) (finishedAt e q)) (lt-ltb m (countOf extent e - e .visited) (omega (arith, h)))
 
-  pub moved-over : (m : ℕ) (q : Pattern) → countOf e ≤ e .visited + m → movedBy e m q ≡ finishedAt e q
+  pub moved-over : (m : ℕ) (q : Pattern) → countOf extent e ≤ e .visited + m → movedBy extent e m q ≡ finishedAt e q
   unfolding movedBy
   moved-over m q h =
-      ap (λ t. cond t (movedTo e m q) (finishedAt e q)) (le-ltb m (countOf e - e .visited) (omega (arith, h)))
+      ap (λ t. cond t (movedTo e m q) (finishedAt e q)) (le-ltb m (countOf extent e - e .visited) (omega (arith, h)))
 
-  advance : (m : ℕ) (q : Pattern) → e .visited + m < countOf e
-      → advancedOf (movedTo e m q) ≡ movedBy e (suc m) (patternAfter (movedTo e m q))
+  advance : (m : ℕ) (q : Pattern) → e .visited + m < countOf extent e
+      → advancedOf extent (movedTo e m q) ≡ movedBy extent e (suc m) (patternAfter (movedTo e m q))
   unfolding advancedOf movedBy
   advance m q h =
       let f = movedTo e m q in
@@ -61,57 +62,57 @@ module _ (e : Engine) where
       let next : e .visited + m + 1 ≡ e .visited + suc m = omega arith in
       let moved : ℕ → Engine = λ k. record { «under_way» = true; visited = k; registers = e .registers; pattern = p; last = e .last } in
       ap (λ t. cond t (moved (e .visited + m + 1)) (finishedAt e p))
-      (ap (ltb (e .visited + m + 1)) (count-same f e refl refl) ∙ same-test (e .visited) m (countOf e) h)
-      ∙ ap (λ k. cond (ltb (suc m) (countOf e - e .visited)) (moved k) (finishedAt e p)) next
+      (ap (ltb (e .visited + m + 1)) (count-same extent f e refl refl) ∙ same-test (e .visited) m (countOf extent e) h)
+      ∙ ap (λ k. cond (ltb (suc m) (countOf extent e - e .visited)) (moved k) (finishedAt e p)) next
 
   starts : e .«under_way» ≡ true → e ≡ movedTo e 0 (e .pattern)
   starts h =
       let none : e .visited ≡ e .visited + 0 = omega arith in
       λ i. record { «under_way» = h i; visited = none i; registers = e .registers; pattern = e .pattern; last = e .last }
 
-  module _ (width height : ℕ) (to : Bool) (other : List ℕ) (t : ℕ → Dashed) where
+  module _ (to : Bool) (other : List ℕ) (t : ℕ → Dashed) where
     -- each state is a visit after the one before
     pub record Marked : Type 0 where
-      pub buffers : (k : ℕ) → e .visited + k < countOf e →
+      pub buffers : (k : ℕ) → e .visited + k < countOf extent e →
           let f = movedTo e k (t k .pattern) in
           let own = t k .buffer in
-          inked f (sourceOf f width height (e .visited + k) (cond to other own) (cond to own other)) (targetOf f width height (e .visited + k)) own
+          inked f (sourceAt extent f (e .visited + k) (cond to other own) (cond to own other)) (targetOf extent f (e .visited + k)) own
           ≡ t (suc k) .buffer
-      pub patterns : (k : ℕ) → e .visited + k < countOf e → patternAfter (movedTo e k (t k .pattern)) ≡ t (suc k) .pattern
+      pub patterns : (k : ℕ) → e .visited + k < countOf extent e → patternAfter (movedTo e k (t k .pattern)) ≡ t (suc k) .pattern
 
-    module _ (drawn : commandIn e .«to_virtual» ≡ to) (under-way : e .«under_way» ≡ true) (some : e .visited < countOf e)
+    module _ (drawn : commandIn e .«to_virtual» ≡ to) (under-way : e .«under_way» ≡ true) (some : e .visited < countOf extent e)
         (first : t 0 .pattern ≡ e .pattern) (marked : Marked) where
-      pub visits-are : (n : ℕ) → e .visited + n ≤ countOf e
-          → visitsOf n width height (sceneOn e to (t 0 .buffer) other) ≡ sceneOn (movedBy e n (t n .pattern)) to (t n .buffer) other
+      pub visits-are : (n : ℕ) → e .visited + n ≤ countOf extent e
+          → visitsOf n extent (sceneOn e to (t 0 .buffer) other) ≡ sceneOn (movedBy extent e n (t n .pattern)) to (t n .buffer) other
       unfolding visitsOf
       visits-are zero few =
           ap (λ f. sceneOn f to (t 0 .buffer) other)
           (starts under-way ∙ ap (movedTo e 0) (sym first) ∙ sym (moved-within 0 (t 0 .pattern) (omega (arith, some))))
       visits-are (suc m) few =
-          let here : e .visited + m < countOf e = omega (arith, few) in
+          let here : e .visited + m < countOf extent e = omega (arith, few) in
           let f = movedTo e m (t m .pattern) in
-          ap (visitOf width height)
+          ap (visitOf extent)
           (visits-are m (omega (arith, few)) ∙ ap (λ f. sceneOn f to (t m .buffer) other) (moved-within m (t m .pattern) here))
-          ∙ visit-on width height f to (t m .buffer) other drawn
-          ∙ (λ i. sceneOn ((advance m (t m .pattern) here ∙ ap (movedBy e (suc m)) (marked .patterns m here)) i) to (marked .buffers m here i) other)
+          ∙ visit-on extent f to (t m .buffer) other drawn
+          ∙ (λ i. sceneOn ((advance m (t m .pattern) here ∙ ap (movedBy extent e (suc m)) (marked .patterns m here)) i) to (marked .buffers m here i) other)
 
 -- what lets visits be done at once
-pub record Leaps (e : Engine) (n width height display virt : ℕ) : Type 0 where
+pub record Leaps (extent : Extent) (e : Engine) (n display virt : ℕ) : Type 0 where
   pub under-way : e .«under_way» ≡ true
-  pub some : e .visited < countOf e
-  pub few : e .visited + n ≤ countOf e
-  pub display-long : display ≡ width * height
-  pub virt-long : virt ≡ width * height
+  pub some : e .visited < countOf extent e
+  pub few : e .visited + n ≤ countOf extent e
+  pub display-long : display ≡ extent .width * extent .height
+  pub virt-long : virt ≡ extent .width * extent .height
 
-pub leaps-of : (e : Engine) (n width height display virt : ℕ) → canLeap e n width height display virt ≡ true → Leaps e n width height display virt
+pub leaps-of : (extent : Extent) (e : Engine) (n display virt : ℕ) → canLeap extent e n display virt ≡ true → Leaps extent e n display virt
 unfolding canLeap
-leaps-of e n width height display virt h =
-    let left = countOf e - e .visited in
+leaps-of extent e n display virt h =
+    let left = countOf extent e - e .visited in
     let c1 = e .«under_way» in
     let c2 = ltb 0 left in
     let c3 = leb n left in
-    let c4 = eqb display (width * height) in
-    let c5 = eqb virt (width * height) in
+    let c4 = eqb display (extent .width * extent .height) in
+    let c5 = eqb virt (extent .width * extent .height) in
     let h4 = and-left (c1 && c2 && c3 && c4) c5 h in
     let h3 = and-left (c1 && c2 && c3) c4 h4 in
     let h2 = and-left (c1 && c2) c3 h3 in
@@ -121,6 +122,6 @@ leaps-of e n width height display virt h =
       under-way = and-left c1 c2 h2;
       some = omega arith;
       few = omega arith;
-      display-long = eqb-true display (width * height) (and-right (c1 && c2 && c3) c4 h4);
-      virt-long = eqb-true virt (width * height) (and-right (c1 && c2 && c3 && c4) c5 h);
+      display-long = eqb-true display (extent .width * extent .height) (and-right (c1 && c2 && c3) c4 h4);
+      virt-long = eqb-true virt (extent .width * extent .height) (and-right (c1 && c2 && c3 && c4) c5 h);
     }

@@ -7,22 +7,23 @@ use Rattle.raster.specs.Selectors.{penOf, selectorsOf}
 use Rattle.raster.specs.declared.Pen.{Pen}
 use Rattle.geometry.specs.Coordinates.{pointOf}
 use Rattle.geometry.specs.Clip.{windowOf}
+use Rattle.geometry.specs.declared.Extent.{Extent}
 use Rattle.geometry.specs.declared.Window.{Window}
 use Rattle.rows.specs.declared.Mix.{Mix}
 use Rattle.stipples.specs.declared.Stipple.{Stipple}
 use Rattle.blits.specs.declared.Blit.{Blit}
 use Rattle.blits.specs.declared.Paint.{Paint}
 use Rattle.blits.specs.declared.Paint.the-variants.{Solid, Copied, Moved, Stippled, StippledWithin}
-use Rattle.entries.specs.Fields.{patternControlOf}
+use Rattle.entries.specs.Fields.{patternControlOf, isBlit, isLine}
 use Rattle.registers.specs.declared.dashes.Pattern.{Pattern}
 use Rattle.strokes.specs.Strokes.{strokeOf, Dashed, dashed, dashesOf}
 use Rattle.strokes.specs.declared.Dashes.{Dashes}
-use Rattle.commands.specs.Visits.{commandIn, isBlit, isLine, lineStart, countOf}
+use Rattle.commands.specs.Visits.{commandIn, lineStart, countOf}
 use Rattle.commands.specs.declared.Engine.{Engine}
 
 -- The window of clip and buffer, and the pen of a value. FORE, BACK, MASK and KEY are bytes in a legal register file.
-abbrev pub windowIn : Engine → ℕ → ℕ → Window
-windowIn e width height = windowOf width height (commandIn e .clip) (e .registers .clptl) (e .registers .clpbr)
+abbrev pub windowIn : Extent → Engine → Window
+windowIn extent e = windowOf extent (commandIn e .clip) (e .registers .clptl) (e .registers .clpbr)
 
 abbrev pub penIn : Engine → ℕ → Pen
 penIn e value = penOf (commandIn e .code) (value % 256) (e .registers .mask % 256)
@@ -57,12 +58,12 @@ paintOf e =
     (cond (commandIn e .«from_virtual») (fromOwn e) (fromOther e))
     (cond (commandIn e .«from_virtual») (fromOther e) (fromOwn e)))
 
-abbrev pub blitIn : Engine → ℕ → ℕ → Blit
-blitIn e width height =
+abbrev pub blitIn : Extent → Engine → Blit
+blitIn extent e =
     record {
-      width = width;
-      height = height;
-      window = windowIn e width height;
+      width = extent .width;
+      height = extent .height;
+      window = windowIn extent e;
       from = e .registers .xy0;
       to = e .registers .xy1;
       size = e .registers .xy2;
@@ -82,13 +83,13 @@ dashesIn e =
     }
 
 -- n pixels of the line in CMD on the buffer that it draws on, and the pattern after them.
-unfoldable pub strokeIn : Engine → ℕ → ℕ → ℕ → List ℕ → Dashed
-strokeIn e width height n l =
+unfoldable pub strokeIn : Extent → Engine → ℕ → List ℕ → Dashed
+strokeIn extent e n l =
     let a = pointOf (lineStart e) in
     let b = pointOf (e .registers .xy1) in
-    let w = windowIn e width height in
-    cond (commandIn e .solid) (dashed (strokeOf width w (penIn e (e .registers .fore)) a b (e .visited) n l) (e .pattern))
-    (dashesOf width w (dashesIn e) a b (e .visited) n (dashed l (e .pattern)))
+    let w = windowIn extent e in
+    cond (commandIn e .solid) (dashed (strokeOf (extent .width) w (penIn e (e .registers .fore)) a b (e .visited) n l) (e .pattern))
+    (dashesOf (extent .width) w (dashesIn e) a b (e .visited) n (dashed l (e .pattern)))
 
 -- An engine with n more pixels visited and the pattern at q: with more pixels left, and once none is left.
 abbrev pub movedTo : Engine → ℕ → Pattern → Engine
@@ -98,26 +99,26 @@ abbrev pub finishedAt : Engine → Pattern → Engine
 finishedAt e q =
     record { «under_way» = false; visited = 0; registers = e .registers; pattern = q; last = e .registers .xy1 }
 
-unfoldable pub movedBy : Engine → ℕ → Pattern → Engine
-movedBy e n q = cond (ltb n (countOf e - e .visited)) (movedTo e n q) (finishedAt e q)
+unfoldable pub movedBy : Extent → Engine → ℕ → Pattern → Engine
+movedBy extent e n q = cond (ltb n (countOf extent e - e .visited)) (movedTo e n q) (finishedAt e q)
 
--- Whether n visits can be done at once: a command under way with that many pixels left, on buffers of width x height bytes.
-unfoldable pub canLeap : Engine → ℕ → ℕ → ℕ → ℕ → ℕ → Bool
-canLeap e n width height display virt =
+-- Whether n visits can be done at once: a command under way with that many pixels left, on buffers of that extent.
+unfoldable pub canLeap : Extent → Engine → ℕ → ℕ → ℕ → Bool
+canLeap extent e n display virt =
     e .«under_way»
-    && ltb 0 (countOf e - e .visited)
-    && leb n (countOf e - e .visited)
-    && eqb display (width * height)
-    && eqb virt (width * height)
+    && ltb 0 (countOf extent e - e .visited)
+    && leb n (countOf extent e - e .visited)
+    && eqb display (extent .width * extent .height)
+    && eqb virt (extent .width * extent .height)
 
 -- Row by row, and by a line's error term.
-unfoldable pub goesByRows : Engine → ℕ → ℕ → ℕ → ℕ → ℕ → Bool
-goesByRows e n width height display virt =
-    canLeap e n width height display virt && isBlit (commandIn e) && ltb (e .registers .key) 256
+unfoldable pub goesByRows : Extent → Engine → ℕ → ℕ → ℕ → Bool
+goesByRows extent e n display virt =
+    canLeap extent e n display virt && isBlit (commandIn e) && ltb (e .registers .key) 256
 
-unfoldable pub goesByStroke : Engine → ℕ → ℕ → ℕ → ℕ → ℕ → Bool
-goesByStroke e n width height display virt =
-    canLeap e n width height display virt
+unfoldable pub goesByStroke : Extent → Engine → ℕ → ℕ → ℕ → Bool
+goesByStroke extent e n display virt =
+    canLeap extent e n display virt
     && isLine (commandIn e)
-    && ltb 1 (countOf e)
-    && leb height 65536
+    && ltb 1 (countOf extent e)
+    && leb (extent .height) 65536

@@ -1,2 +1,2 @@
 pub mod Leaps
-pub mod Stretches
+pub mod ListRuns

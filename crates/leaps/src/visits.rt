@@ -11,9 +11,9 @@ use blits::Blit;
 use blits::Paint;
 use blits::draw_blit;
 use commands::Engine;
-use commands::is_line;
 use entries::command_of;
 use entries::pattern_control_of;
+use geometry::Extent;
 use geometry::window_of;
 use raster::Pen;
 use raster::Selectors;
@@ -81,16 +81,16 @@ fn paint(e: Engine) -> Paint
     Paint::Copied(mix)
 }
 
-// The blit in CMD, on buffers of width x height pixels.
-fn blit(e: Engine, width: u32, height: u32) -> Blit
-    ensures { λ r. ⌜ r ≡ blitIn e width height ⌝ }
+// The blit in CMD, on buffers of that extent.
+fn blit(e: Engine, extent: Extent) -> Blit
+    ensures { λ r. ⌜ r ≡ blitIn extent e ⌝ }
 {
     let g = e.registers;
     let c = command_of(g.cmd);
     Blit {
-        width,
-        height,
-        window: window_of(width, height, c.clip, g.clptl, g.clpbr),
+        width: extent.width,
+        height: extent.height,
+        window: window_of(extent, c.clip, g.clptl, g.clpbr),
         from: g.xy0,
         to: g.xy1,
         size: g.xy2,
@@ -100,9 +100,9 @@ fn blit(e: Engine, width: u32, height: u32) -> Blit
 }
 
 // With n more pixels visited, of `count`, and the pattern at p.
-fn moved_by(e: Engine, count: usize, n: usize, p: Pattern) -> Engine
-    requires { ⌜ count ≡ countOf e ⌝ }
-    ensures { λ r. ⌜ r ≡ movedBy e n p ⌝ }
+fn moved_by(e: Engine, extent: Extent, count: usize, n: usize, p: Pattern) -> Engine
+    requires { ⌜ count ≡ countOf extent e ⌝ }
+    ensures { λ r. ⌜ r ≡ movedBy extent e n p ⌝ }
 {
     let g = e.registers;
     if n < less(count, e.visited as usize) {
@@ -133,17 +133,16 @@ fn less(a: usize, b: usize) -> usize
 // Whether n pixels of `count`, no more than are left, can be visited at once on these buffers.
 fn can_leap(
     e: Engine,
+    extent: Extent,
     count: usize,
     n: usize,
-    width: u32,
-    height: u32,
     display: usize,
     virt: usize,
 ) -> bool
-    requires { ⌜ count ≡ countOf e ⌝ }
-    ensures { λ r. ⌜ r ≡ canLeap e n width height display virt ⌝ }
+    requires { ⌜ count ≡ countOf extent e ⌝ }
+    ensures { λ r. ⌜ r ≡ canLeap extent e n display virt ⌝ }
 {
-    let area = (width as usize) * (height as usize);
+    let area = (extent.width as usize) * (extent.height as usize);
     let left = less(count, e.visited as usize);
     e.under_way & (0 < left) & (n <= left) & (display == area) & (virt == area)
 }
@@ -151,20 +150,19 @@ fn can_leap(
 // n pixels of a blit visited, row by row.
 fn visit_rows(
     e: Engine,
+    extent: Extent,
     count: usize,
     n: usize,
-    width: u32,
-    height: u32,
     display: &mut [u8],
     virt: &mut [u8],
 ) -> Engine
-    requires { ⌜ (goesByRows e n width height (length (now display)) (length (now virt)) ≡ true) × (count ≡ countOf e) ⌝ }
-    ensures { λ r. ⌜ scene r (now (display .exit)) (now (virt .exit)) ≡ visitsOf n width height (scene e (now (display .entry)) (now (virt .entry))) ⌝ }
+    requires { ⌜ (goesByRows extent e n (length (now display)) (length (now virt)) ≡ true) × (count ≡ countOf extent e) ⌝ }
+    ensures { λ r. ⌜ scene r (now (display .exit)) (now (virt .exit)) ≡ visitsOf n extent (scene e (now (display .entry)) (now (virt .entry))) ⌝ }
 {
     let g = e.registers;
     let c = command_of(g.cmd);
-    let b = blit(e, width, height);
-    let after = moved_by(e, count, n, e.pattern);
+    let b = blit(e, extent);
+    let after = moved_by(e, extent, count, n, e.pattern);
     if c.to_virtual {
         draw_blit(b, e.visited as usize, n, virt, display);
     } else {
@@ -174,18 +172,18 @@ fn visit_rows(
 }
 
 // n pixels of the line in CMD, on the buffer that it draws on; the pattern after them.
-fn stroke(e: Engine, n: usize, width: u32, height: u32, buffer: &mut [u8]) -> Pattern
-    ensures { λ r. ⌜ dashed (now (buffer .exit)) r ≡ strokeIn e width height n (now (buffer .entry)) ⌝ }
+fn stroke(e: Engine, extent: Extent, n: usize, buffer: &mut [u8]) -> Pattern
+    ensures { λ r. ⌜ dashed (now (buffer .exit)) r ≡ strokeIn extent e n (now (buffer .entry)) ⌝ }
 {
     let g = e.registers;
     let p = e.pattern;
     let c = command_of(g.cmd);
     let start = e.line_start();
-    let window = window_of(width, height, c.clip, g.clptl, g.clpbr);
+    let window = window_of(extent, c.clip, g.clptl, g.clpbr);
     let fore = pen(e, g.fore);
     let first = e.visited as usize;
     if c.solid {
-        draw_line(buffer, width, window, fore, start, g.xy1, first, n);
+        draw_line(buffer, extent.width, window, fore, start, g.xy1, first, n);
         return p;
     }
     let dashes = Dashes {
@@ -195,47 +193,45 @@ fn stroke(e: Engine, n: usize, width: u32, height: u32, buffer: &mut [u8]) -> Pa
         clear: c.trnsp,
         control: pattern_control_of(g.pctrl),
     };
-    draw_dashes(buffer, width, window, dashes, p, start, g.xy1, first, n)
+    draw_dashes(buffer, extent.width, window, dashes, p, start, g.xy1, first, n)
 }
 
 // n pixels of a line visited, by its error term.
 fn visit_stroke(
     e: Engine,
+    extent: Extent,
     count: usize,
     n: usize,
-    width: u32,
-    height: u32,
     display: &mut [u8],
     virt: &mut [u8],
 ) -> Engine
-    requires { ⌜ (goesByStroke e n width height (length (now display)) (length (now virt)) ≡ true) × (count ≡ countOf e) ⌝ }
-    ensures { λ r. ⌜ scene r (now (display .exit)) (now (virt .exit)) ≡ visitsOf n width height (scene e (now (display .entry)) (now (virt .entry))) ⌝ }
+    requires { ⌜ (goesByStroke extent e n (length (now display)) (length (now virt)) ≡ true) × (count ≡ countOf extent e) ⌝ }
+    ensures { λ r. ⌜ scene r (now (display .exit)) (now (virt .exit)) ≡ visitsOf n extent (scene e (now (display .entry)) (now (virt .entry))) ⌝ }
 {
     let g = e.registers;
     let c = command_of(g.cmd);
     if c.to_virtual {
-        let p = stroke(e, n, width, height, virt);
-        return moved_by(e, count, n, p);
+        let p = stroke(e, extent, n, virt);
+        return moved_by(e, extent, count, n, p);
     }
-    let p = stroke(e, n, width, height, display);
-    moved_by(e, count, n, p)
+    let p = stroke(e, extent, n, display);
+    moved_by(e, extent, count, n, p)
 }
 
 // n pixels visited, one by one.
 fn visit_each(
     start: Engine,
+    extent: Extent,
     n: usize,
-    width: u32,
-    height: u32,
     display: &mut [u8],
     virt: &mut [u8],
 ) -> Engine
-    ensures { λ r. ⌜ scene r (now (display .exit)) (now (virt .exit)) ≡ visitsOf n width height (scene start (now (display .entry)) (now (virt .entry))) ⌝ }
+    ensures { λ r. ⌜ scene r (now (display .exit)) (now (virt .exit)) ≡ visitsOf n extent (scene start (now (display .entry)) (now (virt .entry))) ⌝ }
 {
     let mut e = start;
     let mut k: usize = 0;
     while k < n {
-        e = e.visit(width, height, display, virt);
+        e = e.visit(extent, display, virt);
         k += 1;
     }
     e
@@ -244,39 +240,25 @@ fn visit_each(
 // n pixels visited, of a command that visits `count`.
 pub(crate) fn visit_counted(
     e: Engine,
+    extent: Extent,
     count: usize,
     n: usize,
-    width: u32,
-    height: u32,
     display: &mut [u8],
     virt: &mut [u8],
 ) -> Engine
-    requires { ⌜ count ≡ countOf e ⌝ }
-    ensures { λ r. ⌜ scene r (now (display .exit)) (now (virt .exit)) ≡ visitsOf n width height (scene e (now (display .entry)) (now (virt .entry))) ⌝ }
+    requires { ⌜ count ≡ countOf extent e ⌝ }
+    ensures { λ r. ⌜ scene r (now (display .exit)) (now (virt .exit)) ≡ visitsOf n extent (scene e (now (display .entry)) (now (virt .entry))) ⌝ }
 {
     let g = e.registers;
     let c = command_of(g.cmd);
-    let leaps = can_leap(e, count, n, width, height, display.len(), virt.len());
-    if leaps & (c.opcode == 1) & (g.key < 256) {
-        return visit_rows(e, count, n, width, height, display, virt);
+    let leaps = can_leap(e, extent, count, n, display.len(), virt.len());
+    let blit = c.is_blit();
+    if leaps & blit & (g.key < 256) {
+        return visit_rows(e, extent, count, n, display, virt);
     }
-    let line = is_line(c);
-    if leaps & line & (1 < count) & (height <= 65536) {
-        return visit_stroke(e, count, n, width, height, display, virt);
+    let line = c.is_line();
+    if leaps & line & (1 < count) & (extent.height <= 65536) {
+        return visit_stroke(e, extent, count, n, display, virt);
     }
-    visit_each(e, n, width, height, display, virt)
-}
-
-// n pixels visited.
-pub fn visit_many(
-    e: Engine,
-    n: usize,
-    width: u32,
-    height: u32,
-    display: &mut [u8],
-    virt: &mut [u8],
-) -> Engine
-    ensures { λ r. ⌜ scene r (now (display .exit)) (now (virt .exit)) ≡ visitsOf n width height (scene e (now (display .entry)) (now (virt .entry))) ⌝ }
-{
-    visit_counted(e, e.count(), n, width, height, display, virt)
+    visit_each(e, extent, n, display, virt)
 }

@@ -1,5 +1,6 @@
 -- The source of a blit's cell, by the tests that it passes; of bits, by the byte that holds the bit.
 -- Assumes nothing.
+use Rattle.geometry.specs.declared.Visit.the-variants.{At as VisitAt}
 use mathlib.Core.Path.{_≡_, ap, sym, _∙_}
 use mathlib.Core.Bool.{Bool, true, false, cond, _&&_}
 use mathlib.Core.List.{List}

@@ -1,12 +1,21 @@
-use borrow.Author.Needs.{needs}
-use native.Mathlib.Omega.{arith}
-use Rattle.geometry.proofs.Clips.{product-fits}
 use Rattle.leaps.specs.Leaps.{canLeap}
+use Rattle.geometry.proofs.Clips.{product-fits}
+use native.Mathlib.Omega.{arith}
+use borrow.Author.Needs.{needs}
 use Rattle.leaps.proofs.visits.can_leap.Statement.{statement}
 use Rattle.leaps.proofs.visits.can_leap.Tie as tie
+use Rattle.leaps.proofs.visits.can_leap.Reads as reads
+use Rattle.leaps.proofs.visits.can_leap.Lts as lts
+use Rattle.leaps.proofs.visits.less.Reads as less-reads
+
+cast-area : tie.Need-cast-area
+cast-area c = search needs
+
+cast-area-2 : tie.Need-cast-area-2
+cast-area-2 c = search needs
 
 mul-area : tie.Need-mul-area
-mul-area c = let s = c .args in omega (arith, product-fits (s .width) (s .height) (search needs) (search needs))
+mul-area c = let s = c .before .before .args in omega (arith, product-fits (s .extent .width) (s .extent .height) (search needs) (search needs))
 
 cast-less : tie.Need-cast-less
 cast-less c = search needs
@@ -16,7 +25,7 @@ less-requires c κs = search needs
 
 returns : tie.Need-returns
 unfolding canLeap
-returns c = let low = c .before in rw (low .less .ensures, low .before .before .pre)
+returns c = let low = c .before in rw (low .less .ensures, low .before .before .before .before .pre)
 
 pub can-leap-spec : {M : Type 1} → statement M
-can-leap-spec = tie.close (tie.spec mul-area cast-less less-requires returns)
+can-leap-spec = tie.close (tie.spec cast-area cast-area-2 mul-area cast-less less-requires returns)

@@ -31,7 +31,7 @@ returns c =
     let window = pen .before in
     let start = window .before in
     let is = start .before .command-of .ensures in
-    stroke-solid _ _ is _ _ _ _ (done .before .before .if1 .taken) _
+    stroke-solid _ _ _ is _ _ (done .before .before .if1 .taken) _
     (rw (window .window-of .ensures, pen .pen .ensures, start .line-start .ensures, is) at (done .draw-line .ensures))
 
 pen-requires-2 : tie.Need-pen-requires-2
@@ -56,7 +56,7 @@ returns-2 c =
     let window = pen .before in
     let start = window .before in
     let is = start .before .command-of .ensures in
-    stroke-dashes _ _ is _ _ _ _ (chosen .if1 .left) _
+    stroke-dashes _ _ _ is _ _ (chosen .if1 .left) _
     (rw (control .pattern-control-of .ensures, back .pen2 .ensures, window .window-of .ensures, pen .pen .ensures, start .line-start .ensures, is) at (done .draw-dashes .ensures))
 
 pub stroke-spec : {M : Type 1} → statement M

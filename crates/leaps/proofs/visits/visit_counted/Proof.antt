@@ -1,7 +1,16 @@
-use borrow.Author.Needs.{needs}
 use Rattle.leaps.specs.Leaps.{goesByRows, goesByStroke}
+use borrow.Author.Needs.{needs}
 use Rattle.leaps.proofs.visits.visit_counted.Statement.{statement}
 use Rattle.leaps.proofs.visits.visit_counted.Tie as tie
+use Rattle.leaps.proofs.visits.visit_counted.Reads as reads
+use Rattle.leaps.proofs.visits.visit_counted.Lts as lts
+use Rattle.entries.proofs.fields.Command.is_blit.Reads as is-blit-reads
+use Rattle.entries.proofs.fields.Command.is_line.Reads as is-line-reads
+use Rattle.entries.proofs.command_of.Reads as command-of-reads
+use Rattle.leaps.proofs.visits.can_leap.Reads as can-leap-reads
+use Rattle.leaps.proofs.visits.visit_each.Reads as visit-each-reads
+use Rattle.leaps.proofs.visits.visit_rows.Reads as visit-rows-reads
+use Rattle.leaps.proofs.visits.visit_stroke.Reads as visit-stroke-reads
 
 command-of-requires : tie.Need-command-of-requires
 command-of-requires c κs = search needs
@@ -9,12 +18,16 @@ command-of-requires c κs = search needs
 can-leap-requires : tie.Need-can-leap-requires
 can-leap-requires c κs = search needs
 
+is-blit-requires : tie.Need-is-blit-requires
+is-blit-requires c κs = search needs
+
 visit-rows-requires : tie.Need-visit-rows-requires
 unfolding goesByRows
 visit-rows-requires c κs =
     let chosen = c .before .before in
-    let o = chosen .before .before .before in
-    (rw (o .can-leap .ensures, o .before .command-of .ensures) at (chosen .if1 .taken), o .before .before .before .before .before .pre)
+    let o = chosen .before .before in
+    let k = o .before .before in
+    (rw (o .is-blit .ensures, o .before .can-leap .ensures, k .command-of .ensures) at (chosen .if1 .taken), k .before .before .before .before .pre)
 
 same-length : tie.Need-same-length
 same-length c = search needs
@@ -32,10 +45,11 @@ visit-stroke-requires : tie.Need-visit-stroke-requires
 unfolding goesByStroke
 visit-stroke-requires c κs =
     let chosen = c .before .before in
-    let line = chosen .before in
-    let o = line .before .before .before .before in
-    let start = o .before .before .before .before .before in
-    (rw (line .is-line .ensures, o .can-leap .ensures, o .before .command-of .ensures, start .pre) at (chosen .if2 .taken), start .pre)
+    let line = chosen .before .before in
+    let o = line .before .before .before in
+    let k = o .before .before in
+    let start = k .before .before .before .before in
+    (rw (line .is-line .ensures, o .before .can-leap .ensures, k .command-of .ensures, start .pre) at (chosen .if2 .taken), start .pre)
 
 same-length-3 : tie.Need-same-length-3
 same-length-3 c = search needs
@@ -64,6 +78,7 @@ visit-counted-spec =
     (tie.spec
     command-of-requires
     can-leap-requires
+    is-blit-requires
     visit-rows-requires
     same-length
     same-length-2

@@ -4,22 +4,22 @@ use native.Mathlib.Omega.{arith}
 use borrow.Author.Needs.{needs}
 use lib.ListN.{length}
 use Rattle.commands.specs.Steps.{scene, visitsOf}
-use Rattle.commands.proofs.Visits.{visits-none, visits-more}
+use Rattle.commands.proofs.Visiting.{visits-none, visits-more}
 use Rattle.leaps.proofs.visits.visit_each.Statement.{statement}
 use Rattle.leaps.proofs.visits.visit_each.Tie as tie
 
 abbrev Inv-loop : tie.InvT-loop
-Inv-loop n width height display₀ virt₀ e₀ k₀ display virt e k =
+Inv-loop extent n display₀ virt₀ e₀ k₀ display virt e k =
     (k ≤ n)
     × (length display ≡ length display₀)
     × (length virt ≡ length virt₀)
-    × (scene e display virt ≡ visitsOf k width height (scene e₀ display₀ virt₀))
+    × (scene e display virt ≡ visitsOf k extent (scene e₀ display₀ virt₀))
 
 abbrev μ-loop : tie.MeasureT-loop
-μ-loop n width height display₀ virt₀ e₀ k₀ display virt e k = n - k
+μ-loop extent n display₀ virt₀ e₀ k₀ display virt e k = n - k
 
 loop-holds : tie.Need-loop-holds Inv-loop μ-loop
-loop-holds c = (omega arith, refl, refl, visits-none _ _ _)
+loop-holds c = (omega arith, refl, refl, visits-none _ _)
 
 visit-requires : tie.Need-visit-requires Inv-loop μ-loop
 visit-requires c κs = search needs
@@ -35,9 +35,9 @@ loop-again c =
     let o = c .before .before .before .before in
     let at = o .before .before .before .before in (
       omega arith,
-      o .visit .kept .1 .1 .1 .0 ∙ at .loop .inv .1,
-      o .visit .kept .1 .1 .1 .1 .0 ∙ at .loop .inv .2,
-      o .visit .ensures ∙ visits-more _ _ _ _ _ (at .loop .inv .3),
+      o .visit .kept .1 .1 .0 ∙ at .loop .inv .1,
+      o .visit .kept .1 .1 .1 .0 ∙ at .loop .inv .2,
+      o .visit .ensures ∙ visits-more _ _ _ _ (at .loop .inv .3),
     )
 
 same-length : tie.Need-same-length Inv-loop μ-loop
@@ -51,7 +51,7 @@ returns c =
     let at = c .before in
     let s = at .before .before .before .args in
     let all : at .loop .k ≡ s .n = omega arith in
-    at .loop .inv .3 ∙ ap (λ k. visitsOf k (s .width) (s .height) (scene (s .start) (s .display .now) (s .virt .now))) all
+    at .loop .inv .3 ∙ ap (λ k. visitsOf k (s .extent) (scene (s .start) (s .display .now) (s .virt .now))) all
 
 pub visit-each-spec : {M : Type 1} → statement M
 visit-each-spec =

@@ -42,8 +42,8 @@ returns c =
     let o = moved .before in
     let start = o .before .before .before .before .before in
     let s = start .args in
-    let g = goes-of _ _ _ _ _ _ (start .pre .0) in
-    rows-are (s .e) (s .n) (s .width) (s .height) _ _ g _ (moved .moved-by .ensures) true (s .virt .now) (s .display .now) (g .leaps .virt-long)
+    let g = goes-of _ _ _ _ _ (start .pre .0) in
+    rows-are (s .extent) (s .e) (s .n) _ _ g _ (moved .moved-by .ensures) true (s .virt .now) (s .display .now) (g .leaps .virt-long)
     (g .leaps .display-long) (flag-is (s .e) _ (o .before .command-of .ensures) (λ c. c .«to_virtual») _ (chosen .if1 .taken)) _
     (done .draw-blit .ensures ∙ ap (λ b. blitted b (s .e .visited) (s .n) (s .display .now) (s .virt .now)) (o .blit .ensures))
 
@@ -61,8 +61,8 @@ returns-2 c =
     let o = moved .before in
     let start = o .before .before .before .before .before in
     let s = start .args in
-    let g = goes-of _ _ _ _ _ _ (start .pre .0) in
-    rows-are (s .e) (s .n) (s .width) (s .height) _ _ g _ (moved .moved-by .ensures) false (s .display .now) (s .virt .now) (g .leaps .display-long)
+    let g = goes-of _ _ _ _ _ (start .pre .0) in
+    rows-are (s .extent) (s .e) (s .n) _ _ g _ (moved .moved-by .ensures) false (s .display .now) (s .virt .now) (g .leaps .display-long)
     (g .leaps .virt-long) (flag-is (s .e) _ (o .before .command-of .ensures) (λ c. c .«to_virtual») _ (chosen .if1 .left)) _
     (done .draw-blit2 .ensures ∙ ap (λ b. blitted b (s .e .visited) (s .n) (s .virt .now) (s .display .now)) (o .blit .ensures))
 

@@ -25,8 +25,8 @@ returns c =
     let o = chosen .before in
     let start = o .before .before .before .before in
     let s = start .args in
-    let g = goes-of _ _ _ _ _ _ (start .pre .0) in
-    stroke-is (s .e) (s .n) (s .width) (s .height) _ _ g (dashed _ (done .stroke .result)) _ (c .moved-by .ensures) true
+    let g = goes-of _ _ _ _ _ (start .pre .0) in
+    stroke-is (s .extent) (s .e) (s .n) _ _ g (dashed _ (done .stroke .result)) _ (c .moved-by .ensures) true
     (flag-is (s .e) _ (o .command-of .ensures) (λ c. c .«to_virtual») _ (chosen .if1 .taken)) (s .virt .now) (s .display .now) (g .leaps .virt-long)
     (done .stroke .ensures)
 
@@ -46,8 +46,8 @@ returns-2 c =
     let o = chosen .before in
     let start = o .before .before .before .before in
     let s = start .args in
-    let g = goes-of _ _ _ _ _ _ (start .pre .0) in
-    stroke-is (s .e) (s .n) (s .width) (s .height) _ _ g (dashed _ (done .stroke2 .result)) _ (c .moved-by2 .ensures) false
+    let g = goes-of _ _ _ _ _ (start .pre .0) in
+    stroke-is (s .extent) (s .e) (s .n) _ _ g (dashed _ (done .stroke2 .result)) _ (c .moved-by2 .ensures) false
     (flag-is (s .e) _ (o .command-of .ensures) (λ c. c .«to_virtual») _ (chosen .if1 .left)) (s .display .now) (s .virt .now) (g .leaps .display-long)
     (done .stroke2 .ensures)
 

@@ -45,7 +45,9 @@ use Rattle.registers.proofs.dashes.Pattern as T
 use Rattle.registers.proofs.dashes.Pattern.Laws as T′
 use Rattle.registers.proofs.dashes.next_by as next-by
 use Rattle.registers.proofs.dashes.next_by.Symbol as next-by-def
+use Rattle.registers.proofs.dashes.next_by.Symbol.{name as #next-by}
 use Rattle.registers.proofs.dashes.next_by.Met as next-by-thm
+use Rattle.registers.proofs.dashes.advance.Key.{name as #advance}
 use Rattle.registers.proofs.dashes.advance as f
 use Rattle.registers.proofs.dashes.advance.Statement as stated
 use Rattle.registers.proofs.dashes.advance.Code as code

@@ -2,9 +2,9 @@ use borrow.Author.Needs.{needs}
 use mathlib.Core.Path.{ap, _∙_}
 use Prim.Native.Nat.{_-_, max}
 use Rattle.commands.specs.Steps.{scene}
-use Rattle.leaps.proofs.Stretching.{visits-done}
-use Rattle.leaps.proofs.stretches.visit_up_to.Statement.{statement}
-use Rattle.leaps.proofs.stretches.visit_up_to.Tie as tie
+use Rattle.leaps.proofs.Running.{visits-done}
+use Rattle.leaps.proofs.list_runs.visit_up_to.Statement.{statement}
+use Rattle.leaps.proofs.list_runs.visit_up_to.Tie as tie
 
 count-requires : tie.Need-count-requires
 count-requires c κs = search needs
@@ -32,7 +32,7 @@ returns c =
     let counted = left .before in
     let start = counted .before .before .before in
     let s = start .args in
-    visits-done (s .most) (s .width) (s .height) (scene (s .e) (s .display .now) (s .virt .now)) _ _ _ (start .pre .0) (start .pre .1)
+    visits-done (s .budget) (s .extent) (scene (s .e) (s .display .now) (s .virt .now)) _ _ _ (start .pre .0) (start .pre .1)
     (left .pixels-left .ensures ∙ ap (λ n. max 1 (n - s .e .visited)) (counted .count .ensures)) (few .least .ensures)
     (done .visit-counted .ensures)
 

@@ -1,0 +1,204 @@
+-- Steps of a list one after the other: many pixels at once, and the loop over entries and commands.
+-- Assumes nothing.
+use mathlib.Core.Path.{_≡_, refl, ap, sym, _∙_}
+use mathlib.Core.Bool.{Bool, true, false, cond}
+use mathlib.Core.List.{List}
+use Prim.Native.Nat.{ℕ, zero, suc, _+_, _-_, _≤_, _<_, min, max}
+use native.Mathlib.Omega.{arith}
+use borrow.Author.Tests.{lt-ltb, le-ltb}
+use lib.ListN.{length}
+use Rattle.lemmas.proofs.Booleans.{first-of, second-of}
+use Rattle.geometry.specs.declared.Extent.{Extent}
+use Rattle.entries.specs.declared.decoding.Entry.{Entry}
+use Rattle.lists.specs.Spans.{endOf}
+use Rattle.lists.specs.Cursors.{nextOf, fetchedOf}
+use Rattle.lists.specs.declared.cursors.Cursor.{Cursor}
+use Rattle.lists.specs.declared.cursors.Next.{Next}
+use Rattle.lists.specs.declared.cursors.Next.the-variants.{Ended, Visit, Take, Broken}
+use Rattle.lists.proofs.Fetches.{next-visit, chosen}
+use Rattle.commands.specs.Visits.{countOf}
+use Rattle.commands.specs.Steps.{Scene, scene, advancedOf, visitOf, visitsOf, enteredOf, takenOf}
+use Rattle.commands.specs.declared.Engine.{Engine}
+use Rattle.commands.proofs.Bounds.{count-same}
+use Rattle.leaps.specs.ListRuns.{Reached, stopped, longer, byStep, runFrom, listRun, VisitsDone}
+
+-- ---- sums of steps
+
+longer-none : (r : Reached) → r ≡ longer 0 r
+longer-none r i = record { steps = same i; cursor = r .cursor; after = r .after; broken = r .broken }
+  where
+    same : r .steps ≡ r .steps + 0
+    same = omega arith
+
+longer-longer : (j k : ℕ) (r : Reached) → longer j (longer k r) ≡ longer (k + j) r
+longer-longer j k r i = record { steps = same i; cursor = r .cursor; after = r .after; broken = r .broken }
+  where
+    same : r .steps + k + j ≡ r .steps + (k + j)
+    same = omega arith
+
+-- ---- an engine that is k visits on in its command
+
+record On (e f : Engine) (k : ℕ) : Type 0 where
+  under : f .«under_way» ≡ true
+  at : f .visited ≡ e .visited + k
+  registers-same : f .registers ≡ e .registers
+  last-same : f .last ≡ e .last
+
+advance-on : (extent : Extent) (f : Engine) → f .visited + 1 < countOf extent f → On f (advancedOf extent f) 1
+unfolding advancedOf
+advance-on extent f h = rw (lt-ltb (f .visited + 1) (countOf extent f) h) (record { under = refl; at = refl; registers-same = refl; last-same = refl })
+
+visits-on : (extent : Extent) (s : Scene) (k : ℕ) → s .engine .«under_way» ≡ true → s .engine .visited + k < countOf extent (s .engine)
+    → On (s .engine) (visitsOf k extent s .engine) k
+unfolding visitsOf visitOf
+visits-on extent s zero u h = record { under = u; at = omega arith; registers-same = refl; last-same = refl }
+visits-on extent s (suc k) u h =
+    let f = visitsOf k extent s .engine in
+    let on = visits-on extent s k u (omega arith) in
+    let same : countOf extent f ≡ countOf extent (s .engine) = count-same extent f (s .engine) (on .registers-same) (on .last-same) in
+    let next = advance-on extent f (omega (arith, on .at, same)) in
+    record {
+      under = next .under;
+      at = omega (arith, next .at, on .at);
+      registers-same = next .registers-same ∙ on .registers-same;
+      last-same = next .last-same ∙ on .last-same;
+    }
+
+-- visits within a command, or the first one
+still-busy : (extent : Extent) (s : Scene) (j : ℕ) → s .engine .«under_way» ≡ true → j < max 1 (countOf extent (s .engine) - s .engine .visited)
+    → visitsOf j extent s .engine .«under_way» ≡ true
+unfolding visitsOf
+still-busy extent s zero u h = u
+still-busy extent s (suc j) u h = visits-on extent s (suc j) u (omega arith) .under
+
+pub visits-done : (budget : ℕ) (extent : Extent) (s : Scene) (n k : ℕ) (t : Scene) → s .engine .«under_way» ≡ true → 0 < budget
+    → n ≡ max 1 (countOf extent (s .engine) - s .engine .visited) → k ≡ min budget n → t ≡ visitsOf k extent s → VisitsDone budget extent s k t
+visits-done budget extent s n k t u h p q e =
+    record {
+      some = omega arith;
+      few = omega arith;
+      visits = e;
+      busy = λ j below. still-busy extent s j u (omega arith);
+    }
+
+-- ---- runs of a list
+
+module _ (l : List ℕ) (extent : Extent) where
+  abbrev from : ℕ → Cursor → Scene → Reached
+  from budget c s = runFrom budget l extent c s
+
+  by-next : (budget : ℕ) (c : Cursor) (s : Scene) (x : Next) → nextOf l c (s .engine .«under_way») ≡ x
+      → from (suc budget) c s ≡ byStep extent x c s (from budget c (visitOf extent s)) (from budget)
+  unfolding runFrom
+  by-next budget c s x e = ap (λ x. byStep extent x c s (from budget c (visitOf extent s)) (from budget)) e
+
+  visit-one : (budget : ℕ) (c : Cursor) (s : Scene) → s .engine .«under_way» ≡ true
+      → from (suc budget) c s ≡ longer 1 (from budget c (visitOf extent s))
+  visit-one budget c s u = by-next budget c s Visit (sym (next-visit l c (s .engine .«under_way») u))
+
+  -- k visits of the command under way
+  visits-run : (k budget : ℕ) (c : Cursor) (s : Scene) → ((j : ℕ) → j < k → visitsOf j extent s .engine .«under_way» ≡ true)
+      → from (budget + k) c s ≡ longer k (from budget c (visitsOf k extent s))
+  unfolding visitsOf
+  visits-run zero budget c s busy =
+      let e : budget + 0 ≡ budget = omega arith in
+      ap (λ k. from k c s) e ∙ longer-none (from budget c s)
+  visits-run (suc k) budget c s busy =
+      let e : budget + suc k ≡ suc budget + k = omega arith in
+      let swap : 1 + k ≡ suc k = omega arith in
+      let t = visitsOf k extent s in
+      let o = from budget c (visitOf extent t) in
+      ap (λ k. from k c s) e ∙ visits-run k (suc budget) c s (λ j h. busy j (omega arith))
+      ∙ ap (longer k) (visit-one budget c t (busy k (omega arith))) ∙ longer-longer k 1 o ∙ ap (λ j. longer j o) swap
+
+  -- the loop: k steps are done, and the rest of the run is that from here
+  pub record Going (budget : ℕ) (c₀ : Cursor) (s₀ : Scene) (k : ℕ) (c : Cursor) (s : Scene) : Type 0 where
+    pub under : k ≤ budget
+    pub span-same : c .span ≡ c₀ .span
+    pub display-long : length (s .display) ≡ length (s₀ .display)
+    pub virt-long : length (s .virt) ≡ length (s₀ .virt)
+    pub same : longer k (from (budget - k) c s) ≡ from budget c₀ s₀
+
+  pub going-start : (budget : ℕ) (c : Cursor) (s : Scene) → Going budget c s 0 c s
+  going-start budget c s =
+      let e : budget - 0 ≡ budget = omega arith in
+      record {
+        under = omega arith;
+        span-same = refl;
+        display-long = refl;
+        virt-long = refl;
+        same = sym (longer-none (from (budget - 0) c s)) ∙ ap (λ k. from k c s) e;
+      }
+
+  module _ (budget : ℕ) (c₀ : Cursor) (s₀ : Scene) (k : ℕ) (c : Cursor) (s : Scene) (below : k < budget)
+      (going : Going budget c₀ s₀ k c s) where
+    pub going-visits : (j : ℕ) (t : Scene) → VisitsDone (budget - k) extent s j t → length (t .display) ≡ length (s .display)
+        → length (t .virt) ≡ length (s .virt) → Going budget c₀ s₀ (k + j) c t
+    going-visits j t done ld lv =
+        let rest = budget - (k + j) in
+        let split : budget - k ≡ rest + j = omega (arith, done .few) in
+        let swap : k + j ≡ j + k = omega arith in
+        record {
+          under = omega (arith, done .few);
+          span-same = going .span-same;
+          display-long = ld ∙ going .display-long;
+          virt-long = lv ∙ going .virt-long;
+          same =
+              ap (λ i. longer i (from rest c t)) swap ∙ sym (longer-longer k j (from rest c t))
+              ∙ ap (longer k) (ap (λ t. longer j (from rest c t)) (done .visits) ∙ sym (visits-run j rest c s (done .busy)))
+              ∙ ap (λ i. longer k (from i c s)) (sym split) ∙ going .same;
+        }
+
+    pub going-takes : (x : Entry) → nextOf l c (s .engine .«under_way») ≡ Take x → (f : Engine) → f ≡ enteredOf extent (s .engine) x
+        → Going budget c₀ s₀ (k + 1) (fetchedOf c) (scene f (s .display) (s .virt))
+    going-takes x e f p =
+        let rest = budget - (k + 1) in
+        let split : budget - k ≡ suc rest = omega arith in
+        let swap : k + 1 ≡ 1 + k = omega arith in
+        let t = takenOf extent s x in
+        record {
+          under = omega arith;
+          span-same = going .span-same;
+          display-long = going .display-long;
+          virt-long = going .virt-long;
+          same =
+              ap (λ f. longer (k + 1) (from rest (fetchedOf c) (scene f (s .display) (s .virt)))) p
+              ∙ ap (λ i. longer i (from rest (fetchedOf c) t)) swap ∙ sym (longer-longer k 1 (from rest (fetchedOf c) t))
+              ∙ ap (longer k) (sym (by-next rest c s (Take x) e)) ∙ ap (λ i. longer k (from i c s)) (sym split) ∙ going .same;
+        }
+
+    -- the next entry, which is taken, has a number of 32 bits
+    pub going-room : endOf (c₀ .span) < 4294967296 → (x : Entry) → nextOf l c (s .engine .«under_way») ≡ Take x → c .next + 1 < 4294967296
+    going-room fits x e =
+        let same : endOf (c .span) ≡ endOf (c₀ .span) = ap endOf (going .span-same) in
+        omega (arith, chosen l c (s .engine .«under_way») (Take x) e .more)
+
+    -- no step is left, or the next entry is illegal
+    pub going-stops : (x : Next) (broken : Bool) → nextOf l c (s .engine .«under_way») ≡ x
+        → ((o : Reached) (f : Cursor → Scene → Reached) → byStep extent x c s o f ≡ stopped c s broken)
+        → _≡_ {A = Reached} (record { steps = k; cursor = c; after = s; broken = broken }) (from budget c₀ s₀)
+    going-stops x broken e stops =
+        let rest = budget - (k + 1) in
+        let split : budget - k ≡ suc rest = omega arith in
+        let none : k ≡ 0 + k = omega arith in
+        (λ i. record { steps = none i; cursor = c; after = s; broken = broken })
+        ∙ ap (longer k) (sym (by-next rest c s x e ∙ stops (from rest c (visitOf extent s)) (from rest)))
+        ∙ ap (λ i. longer k (from i c s)) (sym split) ∙ going .same
+
+  -- the budget is spent
+  pub going-spent : (budget : ℕ) (c₀ : Cursor) (s₀ : Scene) (k : ℕ) (c : Cursor) (s : Scene) → budget ≤ k → Going budget c₀ s₀ k c s
+      → _≡_ {A = Reached} (record { steps = k; cursor = c; after = s; broken = false }) (from budget c₀ s₀)
+  unfolding runFrom
+  going-spent budget c₀ s₀ k c s h going =
+      let none : budget - k ≡ 0 = omega arith in
+      let grown : k ≡ 0 + k = omega arith in
+      (λ i. record { steps = grown i; cursor = c; after = s; broken = false }) ∙ ap (λ i. longer k (from i c s)) (sym none) ∙ going .same
+
+  -- a list is run where its end fits
+  pub run-fits : (budget : ℕ) (c : Cursor) (s : Scene) → endOf (c .span) < 4294967296 → from budget c s ≡ listRun budget l extent c s
+  unfolding listRun
+  run-fits budget c s h = ap (λ t. cond t (from budget c s) (stopped c s false)) (sym (lt-ltb (endOf (c .span)) 4294967296 h))
+
+  pub run-none : (budget : ℕ) (c : Cursor) (s : Scene) → 4294967296 ≤ endOf (c .span) → stopped c s false ≡ listRun budget l extent c s
+  unfolding listRun
+  run-none budget c s h = ap (λ t. cond t (from budget c s) (stopped c s false)) (sym (le-ltb (endOf (c .span)) 4294967296 h))

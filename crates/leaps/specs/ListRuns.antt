@@ -1,0 +1,54 @@
+-- Steps of one display list, one after the other (01, Steps).
+use mathlib.Core.Path.{_≡_}
+use mathlib.Core.Bool.{Bool, true, false, cond}
+use mathlib.Core.List.{List}
+use Prim.Native.Nat.{ℕ, zero, suc, _+_, _≤_, _<_}
+use lib.Dec.{ltb}
+use Rattle.geometry.specs.declared.Extent.{Extent}
+use Rattle.lists.specs.Spans.{endOf}
+use Rattle.lists.specs.Cursors.{nextOf, fetchedOf}
+use Rattle.lists.specs.declared.cursors.Cursor.{Cursor}
+use Rattle.lists.specs.declared.cursors.Next.{Next}
+use Rattle.lists.specs.declared.cursors.Next.the-variants.{Ended, Visit, Take, Broken}
+use Rattle.commands.specs.Steps.{Scene, scene, visitOf, visitsOf, takenOf}
+use Rattle.leaps.specs.declared.list_runs.ListRun.{ListRun}
+
+-- Steps done, with the list and the scene after them, and whether an illegal entry ended them.
+pub record Reached : Type 0 where
+  pub steps : ℕ
+  pub cursor : Cursor
+  pub after : Scene
+  pub broken : Bool
+
+abbrev pub reached : ListRun → List ℕ → List ℕ → Reached
+reached r d v = record { steps = r .steps; cursor = r .cursor; after = scene (r .engine) d v; broken = r .broken }
+
+abbrev pub stopped : Cursor → Scene → Bool → Reached
+stopped c s broken = record { steps = 0; cursor = c; after = s; broken = broken }
+
+-- The same with k steps more.
+abbrev pub longer : ℕ → Reached → Reached
+longer k r = record { steps = r .steps + k; cursor = r .cursor; after = r .after; broken = r .broken }
+
+-- As many steps as the budget allows, up to the list's end or its first illegal entry.
+abbrev pub byStep : Extent → Next → Cursor → Scene → Reached → (Cursor → Scene → Reached) → Reached
+byStep extent Ended c s visited taken = stopped c s false
+byStep extent Visit c s visited taken = longer 1 visited
+byStep extent (Take e) c s visited taken = longer 1 (taken (fetchedOf c) (takenOf extent s e))
+byStep extent Broken c s visited taken = stopped c s true
+
+unfoldable pub runFrom : ℕ → List ℕ → Extent → Cursor → Scene → Reached
+runFrom zero l extent c s = stopped c s false
+runFrom (suc budget) l extent c s =
+    byStep extent (nextOf l c (s .engine .«under_way»)) c s (runFrom budget l extent c (visitOf extent s)) (runFrom budget l extent)
+
+-- Entries are numbered in 32 bits: of a list that ends past them, which no record holds, nothing is run.
+unfoldable pub listRun : ℕ → List ℕ → Extent → Cursor → Scene → Reached
+listRun budget l extent c s = cond (ltb (endOf (c .span)) 4294967296) (runFrom budget l extent c s) (stopped c s false)
+
+-- k visits of the command under way, within the budget, lead from s to t.
+pub record VisitsDone (budget : ℕ) (extent : Extent) (s : Scene) (k : ℕ) (t : Scene) : Type 0 where
+  pub some : 0 < k
+  pub few : k ≤ budget
+  pub visits : t ≡ visitsOf k extent s
+  pub busy : (j : ℕ) → j < k → visitsOf j extent s .engine .«under_way» ≡ true

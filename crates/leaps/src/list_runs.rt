@@ -1,0 +1,142 @@
+// Many steps of one display list.
+ghost use mathlib.Core.Path.{_≡_};
+ghost use mathlib.Core.Bool.{true};
+ghost use Prim.Native.Nat.{_-_, _<_, min, max};
+ghost use Rattle.lists.specs.Spans.{endOf};
+ghost use Rattle.commands.specs.Steps.{scene};
+ghost use Rattle.leaps.specs.ListRuns.{reached, runFrom, listRun, VisitsDone};
+use crate::visits::visit_counted;
+use commands::Engine;
+use geometry::Extent;
+use lists::Cursor;
+use lists::Next;
+use lists::next_of;
+
+// The engine after a number of steps.
+pub struct Burst {
+    pub engine: Engine,
+    pub steps: u64,
+}
+
+fn least(a: u64, b: u64) -> u64
+    ensures { λ r. ⌜ r ≡ min a b ⌝ }
+{
+    if a <= b { a } else { b }
+}
+
+// The pixels left of a command under way; where its count says none, the one that a step visits.
+fn pixels_left(count: usize, visited: u32) -> u64
+    ensures { λ r. ⌜ r ≡ max 1 (count - visited) ⌝ }
+{
+    if count <= visited as usize {
+        1
+    } else {
+        (count - visited as usize) as u64
+    }
+}
+
+// The pixels of the command under way, as many as the budget allows.
+fn visit_up_to(
+    e: Engine,
+    extent: Extent,
+    budget: u64,
+    display: &mut [u8],
+    virt: &mut [u8],
+) -> Burst
+    requires { ⌜ (e .«under_way» ≡ true) × (0 < budget) ⌝ }
+    ensures { λ r. ⌜ VisitsDone budget extent (scene e (now (display .entry)) (now (virt .entry))) (r .steps) (scene (r .engine) (now (display .exit)) (now (virt .exit))) ⌝ }
+{
+    let count = e.count(extent);
+    let left = pixels_left(count, e.visited);
+    let n = least(budget, left);
+    Burst {
+        engine: visit_counted(e, extent, count, n as usize, display, virt),
+        steps: n,
+    }
+}
+
+// Steps of a list: the engine and the list after them, and whether an illegal entry ended them within the budget.
+pub struct ListRun {
+    pub engine: Engine,
+    pub cursor: Cursor,
+    pub steps: u64,
+    pub broken: bool,
+}
+
+// The steps of a list whose end fits 32 bits.
+fn run_from(
+    start: Engine,
+    extent: Extent,
+    cursor: Cursor,
+    budget: u64,
+    list: &[u8],
+    display: &mut [u8],
+    virt: &mut [u8],
+) -> ListRun
+    requires { ⌜ endOf (cursor .span) < 4294967296 ⌝ }
+    ensures { λ r. ⌜ reached r (now (display .exit)) (now (virt .exit)) ≡ runFrom budget (now (list .entry)) extent cursor (scene start (now (display .entry)) (now (virt .entry))) ⌝ }
+{
+    let mut e = start;
+    let mut c = cursor;
+    let mut k: u64 = 0;
+    while k < budget {
+        match next_of(list, c, e.under_way) {
+            Next::Visit => {
+                let r = visit_up_to(e, extent, budget - k, display, virt);
+                e = r.engine;
+                k = k + r.steps;
+            }
+            Next::Take(entry) => {
+                e = e.take(extent, entry);
+                c.next = c.next + 1;
+                k = k + 1;
+            }
+            Next::Ended => {
+                return ListRun {
+                    engine: e,
+                    cursor: c,
+                    steps: k,
+                    broken: false,
+                };
+            }
+            Next::Broken => {
+                return ListRun {
+                    engine: e,
+                    cursor: c,
+                    steps: k,
+                    broken: true,
+                };
+            }
+        }
+    }
+    ListRun {
+        engine: e,
+        cursor: c,
+        steps: k,
+        broken: false,
+    }
+}
+
+// As many steps of a list as the budget allows, up to its end or its first illegal entry.
+pub fn run_list(
+    start: Engine,
+    extent: Extent,
+    cursor: Cursor,
+    budget: u64,
+    list: &[u8],
+    display: &mut [u8],
+    virt: &mut [u8],
+) -> ListRun
+    ensures { λ r. ⌜ reached r (now (display .exit)) (now (virt .exit)) ≡ listRun budget (now (list .entry)) extent cursor (scene start (now (display .entry)) (now (virt .entry))) ⌝ }
+{
+    let s = cursor.span;
+    if 4294967295 < s.end() {
+        return ListRun {
+            engine: start,
+            cursor,
+            steps: 0,
+            broken: false,
+        };
+    }
+    run_from(start, extent, cursor, budget, list, display, virt)
+}
