@@ -1,4 +1,4 @@
--- What post, store and window write hear, by the tests that a call passes.
+-- What post, store and window write answer, by the tests that a call passes.
 -- Assumes nothing.
 use mathlib.Core.Path.{_≡_, refl, ap, sym, _∙_}
 use mathlib.Core.Bool.{Bool, true, false, cond, _&&_, _||_}
@@ -11,51 +11,53 @@ use lib.Dec.{eqb, leb}
 use lib.ListN.{length, getD, set, take, drop}
 use lib.Seq.{paste, paste-zero, paste-suc, take-length}
 use Rattle.lemmas.proofs.Booleans.{by-cases}
-use Rattle.entries.specs.Legality.{firstIllegal}
-use Rattle.entries.specs.declared.legality.Illegal.{Illegal}
-use Rattle.slots.specs.Answers.{told}
-use Rattle.slots.specs.Calls.{judgedBy, postHeard, putInto, touches, leaves, storeHeard, writeHeard}
+use Rattle.lemmas.specs.Memory.{putInto}
+use Rattle.answers.specs.Reports.{report}
+use Rattle.lists.specs.Spans.{spanOf, firstIllegal}
+use Rattle.lists.specs.declared.spans.Illegal.{Illegal}
+use Rattle.slots.specs.Calls.{judgedBy, postReport, holdsAny, leaves, storeReport, writeReport}
+use Rattle.slots.specs.Slots.{areaOf}
 use Rattle.slots.specs.declared.record.Sizes.{Sizes}
 use Rattle.slots.specs.declared.record.Slot.{Slot}
 
 module _ (z : Sizes) (a p : Slot) where
   -- ---- post
   module _ (l : List ℕ) (start count : ℕ) where
-    pub post-wrong-size : (length l ≡ 5 * z .entries → ⊥) → told 2 0 0 ≡ postHeard z a p l start count
-    unfolding postHeard
+    pub post-wrong-size : (length l ≡ 5 * z .entries → ⊥) → report 2 0 0 ≡ postReport z a p l start count
+    unfolding postReport
     post-wrong-size e = rw (ne-eqb (length l) (5 * z .entries) e)
 
     module _ (long : length l ≡ 5 * z .entries) where
-      pub post-none : count ≡ 0 → told 3 0 0 ≡ postHeard z a p l start count
-      unfolding postHeard
+      pub post-none : count ≡ 0 → report 3 0 0 ≡ postReport z a p l start count
+      unfolding postReport
       post-none e = rw (eq-eqb (length l) (5 * z .entries) long, eq-eqb count 0 e)
 
       module _ (some : count ≡ 0 → ⊥) where
-        pub post-past : z .entries < start + count → told 4 0 0 ≡ postHeard z a p l start count
-        unfolding postHeard
+        pub post-past : z .entries < start + count → report 4 0 0 ≡ postReport z a p l start count
+        unfolding postReport
         post-past h = rw (eq-eqb (length l) (5 * z .entries) long, ne-eqb count 0 some, lt-leb (start + count) (z .entries) h)
 
         module _ (fits : start + count ≤ z .entries) where
-          pub post-full : (a .taken && p .taken) ≡ true → told 5 0 0 ≡ postHeard z a p l start count
-          unfolding postHeard
+          pub post-full : (a .taken && p .taken) ≡ true → report 5 0 0 ≡ postReport z a p l start count
+          unfolding postReport
           post-full h =
               rw (eq-eqb (length l) (5 * z .entries) long, ne-eqb count 0 some, le-leb (start + count) (z .entries) fits, h)
 
-          pub post-judged : (a .taken && p .taken) ≡ false → (i j : Illegal) → i ≡ firstIllegal l start count → i ≡ j
-              → judgedBy j ≡ postHeard z a p l start count
-          unfolding postHeard
+          pub post-judged : (a .taken && p .taken) ≡ false → (i j : Illegal) → i ≡ firstIllegal l (spanOf start count) → i ≡ j
+              → judgedBy j ≡ postReport z a p l start count
+          unfolding postReport
           post-judged h i j s t =
               rw (eq-eqb (length l) (5 * z .entries) long, ne-eqb count 0 some, le-leb (start + count) (z .entries) fits, h)
               (ap judgedBy (sym t ∙ s))
 
     -- a list that is not refused fits
-    pub post-fits : postHeard z a p l start count .number ≡ 0 → start + count ≤ z .entries
-    unfolding postHeard
+    pub post-fits : postReport z a p l start count .number ≡ 0 → start + count ≤ z .entries
+    unfolding postReport
     post-fits h =
         by-cases (leb (start + count) (z .entries)) (λ t. leb-true (start + count) (z .entries) t)
         (λ t. absurd (refused (eqb (length l) (5 * z .entries)) (eqb count 0) (rw t at h)))
       where
-        refused : (x y : Bool) → cond x (cond y (told 3 0 0) (told 4 0 0)) (told 2 0 0) .number ≡ 0 → ⊥
+        refused : (x y : Bool) → cond x (cond y (report 3 0 0) (report 4 0 0)) (report 2 0 0) .number ≡ 0 → ⊥
         refused true true h = omega arith
         refused true false h = omega arith
         refused false y h = omega arith
@@ -63,71 +65,71 @@ module _ (z : Sizes) (a p : Slot) where
   -- ---- store
   module _ (l : List ℕ) (first : ℕ) (bytes : List ℕ) where
     pub store-wrong-size : (eqb (length l) (5 * z .entries) && eqb (length bytes % 5) 0) ≡ false
-        → leaves 2 l ≡ storeHeard z a p l first bytes
-    unfolding storeHeard
+        → leaves 2 l ≡ storeReport z a p l first bytes
+    unfolding storeReport
     store-wrong-size e = rw e
 
     module _ (long : (eqb (length l) (5 * z .entries) && eqb (length bytes % 5) 0) ≡ true) where
-      pub store-past : z .entries < first + length bytes / 5 → leaves 4 l ≡ storeHeard z a p l first bytes
-      unfolding storeHeard
+      pub store-past : z .entries < first + length bytes / 5 → leaves 4 l ≡ storeReport z a p l first bytes
+      unfolding storeReport
       store-past h = rw (long, lt-leb (first + length bytes / 5) (z .entries) h)
 
       module _ (fits : first + length bytes / 5 ≤ z .entries) where
-        pub store-held : (touches a first (length bytes / 5) || touches p first (length bytes / 5)) ≡ true
-            → leaves 8 l ≡ storeHeard z a p l first bytes
-        unfolding storeHeard
+        pub store-held : (holdsAny a first (length bytes / 5) || holdsAny p first (length bytes / 5)) ≡ true
+            → leaves 8 l ≡ storeReport z a p l first bytes
+        unfolding storeReport
         store-held h = rw (long, le-leb (first + length bytes / 5) (z .entries) fits, h)
 
-        pub store-done : (touches a first (length bytes / 5) || touches p first (length bytes / 5)) ≡ false → (m : List ℕ)
-            → m ≡ putInto l (5 * first) bytes → leaves 0 m ≡ storeHeard z a p l first bytes
-        unfolding storeHeard
+        pub store-done : (holdsAny a first (length bytes / 5) || holdsAny p first (length bytes / 5)) ≡ false → (m : List ℕ)
+            → m ≡ putInto l (5 * first) bytes → leaves 0 m ≡ storeReport z a p l first bytes
+        unfolding storeReport
         store-done h m e = rw (long, le-leb (first + length bytes / 5) (z .entries) fits, h) (ap (leaves 0) e)
 
   -- ---- window write
   module _ (number offset : ℕ) (bytes buffer : List ℕ) where
-    pub write-wrong-size : (leb number 1 && eqb (length buffer) (z .width * z .height)) ≡ false
-        → leaves 2 buffer ≡ writeHeard z a p number offset bytes buffer
-    unfolding writeHeard
+    pub write-wrong-size : (leb number 1 && eqb (length buffer) (areaOf z)) ≡ false
+        → leaves 2 buffer ≡ writeReport z a p number offset bytes buffer
+    unfolding writeReport
     write-wrong-size e = rw e
 
-    module _ (named : (leb number 1 && eqb (length buffer) (z .width * z .height)) ≡ true) where
-      pub write-past : z .width * z .height < offset + length bytes → leaves 4 buffer ≡ writeHeard z a p number offset bytes buffer
-      unfolding writeHeard
-      write-past h = rw (named, lt-leb (offset + length bytes) (z .width * z .height) h)
+    module _ (named : (leb number 1 && eqb (length buffer) (areaOf z)) ≡ true) where
+      pub write-past : areaOf z < offset + length bytes → leaves 4 buffer ≡ writeReport z a p number offset bytes buffer
+      unfolding writeReport
+      write-past h = rw (named, lt-leb (offset + length bytes) (areaOf z) h)
 
-      module _ (fits : offset + length bytes ≤ z .width * z .height) where
-        pub write-busy : (a .taken || p .taken) ≡ true → leaves 7 buffer ≡ writeHeard z a p number offset bytes buffer
-        unfolding writeHeard
-        write-busy h = rw (named, le-leb (offset + length bytes) (z .width * z .height) fits, h)
+      module _ (fits : offset + length bytes ≤ areaOf z) where
+        pub write-busy : (a .taken || p .taken) ≡ true → leaves 7 buffer ≡ writeReport z a p number offset bytes buffer
+        unfolding writeReport
+        write-busy h = rw (named, le-leb (offset + length bytes) (areaOf z) fits, h)
 
         pub write-done : (a .taken || p .taken) ≡ false → (m : List ℕ) → m ≡ putInto buffer offset bytes
-            → leaves 0 m ≡ writeHeard z a p number offset bytes buffer
-        unfolding writeHeard
-        write-done h m e = rw (named, le-leb (offset + length bytes) (z .width * z .height) fits, h) (ap (leaves 0) e)
+            → leaves 0 m ≡ writeReport z a p number offset bytes buffer
+        unfolding writeReport
+        write-done h m e = rw (named, le-leb (offset + length bytes) (areaOf z) fits, h) (ap (leaves 0) e)
 
 -- ---- a refusal leaves the memory as it was
 leaves-by : (memory after : List ℕ) (number : ℕ) (long fits held : Bool) →
     let m = cond long (cond fits (cond held (leaves number memory) (leaves 0 after)) (leaves 4 memory)) (leaves 2 memory) in
-    (m .heard .number ≡ 0 → ⊥) → m .memory ≡ memory
+    (m .report .number ≡ 0 → ⊥) → m .memory ≡ memory
 leaves-by memory after number false fits held n = refl
 leaves-by memory after number true false held n = refl
 leaves-by memory after number true true true n = refl
 leaves-by memory after number true true false n = absurd (n refl)
 
 pub store-leaves : (z : Sizes) (a p : Slot) (l : List ℕ) (first : ℕ) (bytes : List ℕ)
-    → (storeHeard z a p l first bytes .heard .number ≡ 0 → ⊥) → storeHeard z a p l first bytes .memory ≡ l
-unfolding storeHeard
+    → (storeReport z a p l first bytes .report .number ≡ 0 → ⊥) → storeReport z a p l first bytes .memory ≡ l
+unfolding storeReport
 store-leaves z a p l first bytes =
     leaves-by l (putInto l (5 * first) bytes) 8 (eqb (length l) (5 * z .entries) && eqb (length bytes % 5) 0)
     (leb (first + length bytes / 5) (z .entries))
-    (touches a first (length bytes / 5) || touches p first (length bytes / 5))
+    (holdsAny a first (length bytes / 5) || holdsAny p first (length bytes / 5))
 
 pub write-leaves : (z : Sizes) (a p : Slot) (number offset : ℕ) (bytes buffer : List ℕ)
-    → (writeHeard z a p number offset bytes buffer .heard .number ≡ 0 → ⊥) → writeHeard z a p number offset bytes buffer .memory ≡ buffer
-unfolding writeHeard
+    → (writeReport z a p number offset bytes buffer .report .number ≡ 0 → ⊥) → writeReport z a p number offset bytes buffer .memory ≡ buffer
+unfolding writeReport
 write-leaves z a p number offset bytes buffer =
-    leaves-by buffer (putInto buffer offset bytes) 7 (leb number 1 && eqb (length buffer) (z .width * z .height))
-    (leb (offset + length bytes) (z .width * z .height))
+    leaves-by buffer (putInto buffer offset bytes) 7 (leb number 1 && eqb (length buffer) (areaOf z))
+    (leb (offset + length bytes) (areaOf z))
     (a .taken || p .taken)
 
 -- ---- bytes into a memory

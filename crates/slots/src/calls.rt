@@ -1,14 +1,16 @@
-// What post, store and window write hear, of a well formed record.
+// What post, store and window write answer, of a well formed record.
 ghost use mathlib.Core.Path.{_≡_};
 ghost use Prim.Native.Nat.{_+_, _≤_};
 ghost use lib.ListN.{length};
-ghost use Rattle.slots.specs.Answers.{toldOf};
-ghost use Rattle.slots.specs.Calls.{postHeard, putInto, touches, lent, storeHeard, writeHeard};
-use crate::answers::Heard;
+ghost use Rattle.lemmas.specs.Memory.{putInto};
+ghost use Rattle.answers.specs.Reports.{reportOf};
+ghost use Rattle.slots.specs.Calls.{postReport, holdsAny, lent, storeReport, writeReport};
+use answers::Status;
 use crate::record::Sizes;
 use crate::record::Slot;
-use entries::Illegal;
-use entries::first_illegal;
+use lists::Illegal;
+use lists::Span;
+use lists::first_illegal;
 
 // Bytes into a memory, from a place on.
 fn put(memory: &mut [u8], at: usize, bytes: &[u8])
@@ -24,59 +26,60 @@ fn put(memory: &mut [u8], at: usize, bytes: &[u8])
 
 // Whether n entries from `first` on have one of a slot's list among them.
 fn held(s: Slot, first: usize, n: usize) -> bool
-    requires { ⌜ first + n ≤ 4294967295 ⌝ }
-    ensures { λ r. ⌜ r ≡ touches s first n ⌝ }
+    ensures { λ r. ⌜ r ≡ holdsAny s first n ⌝ }
 {
-    s.taken
-        & (0 < n)
-        & (first < s.start as usize + s.count as usize)
-        & ((s.start as usize) < first + n)
+    let span = s.span;
+    s.taken & span.touches(first, n)
 }
 
 // A list of `count` entries from `start` on, to be posted beside the lists in the active slot `a` and the pending slot `p`.
-pub fn post_heard(z: Sizes, a: Slot, p: Slot, list: &[u8], start: usize, count: usize) -> Heard
-    ensures { λ r. ⌜ toldOf r ≡ postHeard z a p (now (list .entry)) start count ⌝ }
+pub fn post_status(z: Sizes, a: Slot, p: Slot, list: &[u8], start: usize, count: usize) -> Status
+    ensures { λ r. ⌜ reportOf r ≡ postReport z a p (now (list .entry)) start count ⌝ }
 {
     if list.len() != 5 * (z.entries as usize) {
-        return Heard::WrongSize;
+        return Status::WrongSize;
     }
     if count == 0 {
-        return Heard::NoEntries;
+        return Status::NoEntries;
     }
     if (z.entries as usize) < start {
-        return Heard::PastTheEnd;
+        return Status::PastTheEnd;
     }
     if z.entries as usize - start < count {
-        return Heard::PastTheEnd;
+        return Status::PastTheEnd;
     }
     if a.taken & p.taken {
-        return Heard::SlotsTaken;
+        return Status::SlotsTaken;
     }
-    match first_illegal(list, start, count) {
-        Illegal::At(place) => Heard::IllegalEntry(place),
-        Illegal::Nowhere => Heard::Done(0),
+    let span = Span {
+        start: start as u32,
+        count: count as u32,
+    };
+    match first_illegal(list, span) {
+        Illegal::At(place) => Status::IllegalEntry(place),
+        Illegal::Nowhere => Status::Done(0),
     }
 }
 
 // Bytes stored into list memory from an entry on.
-pub fn store_into(z: Sizes, a: Slot, p: Slot, list: &mut [u8], first: usize, bytes: &[u8]) -> Heard
-    ensures { λ r. ⌜ lent r (now (list .exit)) ≡ storeHeard z a p (now (list .entry)) first (now (bytes .entry)) ⌝ }
+pub fn store_into(z: Sizes, a: Slot, p: Slot, list: &mut [u8], first: usize, bytes: &[u8]) -> Status
+    ensures { λ r. ⌜ lent r (now (list .exit)) ≡ storeReport z a p (now (list .entry)) first (now (bytes .entry)) ⌝ }
 {
     let n = bytes.len() / 5;
     if !((list.len() == 5 * (z.entries as usize)) & (bytes.len() % 5 == 0)) {
-        return Heard::WrongSize;
+        return Status::WrongSize;
     }
     if (z.entries as usize) < first {
-        return Heard::PastTheEnd;
+        return Status::PastTheEnd;
     }
     if z.entries as usize - first < n {
-        return Heard::PastTheEnd;
+        return Status::PastTheEnd;
     }
     if held(a, first, n) | held(p, first, n) {
-        return Heard::EntryHeld;
+        return Status::EntryHeld;
     }
     put(list, 5 * first, bytes);
-    Heard::Done(0)
+    Status::Done(0)
 }
 
 // Bytes written into the display (0) or the virtual buffer (1), from an offset on.
@@ -88,22 +91,23 @@ pub fn write_into(
     offset: usize,
     bytes: &[u8],
     buffer: &mut [u8],
-) -> Heard
-    ensures { λ r. ⌜ lent r (now (buffer .exit)) ≡ writeHeard z a p number offset (now (bytes .entry)) (now (buffer .entry)) ⌝ }
+) -> Status
+    ensures { λ r. ⌜ lent r (now (buffer .exit)) ≡ writeReport z a p number offset (now (bytes .entry)) (now (buffer .entry)) ⌝ }
 {
-    let area = (z.width as usize) * (z.height as usize);
+    let x = z.extent;
+    let area = (x.width as usize) * (x.height as usize);
     if !((number <= 1) & (buffer.len() == area)) {
-        return Heard::WrongSize;
+        return Status::WrongSize;
     }
     if area < offset {
-        return Heard::PastTheEnd;
+        return Status::PastTheEnd;
     }
     if area - offset < bytes.len() {
-        return Heard::PastTheEnd;
+        return Status::PastTheEnd;
     }
     if a.taken | p.taken {
-        return Heard::SlotTaken;
+        return Status::SlotTaken;
     }
     put(buffer, offset, bytes);
-    Heard::Done(0)
+    Status::Done(0)
 }

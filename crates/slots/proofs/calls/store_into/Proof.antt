@@ -7,14 +7,14 @@ use borrow.Author.Tests.{eqb-true, not-true, not-false}
 use lib.Dec.{eqb}
 use lib.ListN.{length}
 use Rattle.lemmas.proofs.Booleans.{and-left, and-right}
-use Rattle.slots.specs.Calls.{touches, leaves, storeHeard}
+use Rattle.slots.specs.Calls.{holdsAny, leaves, storeReport}
 use Rattle.slots.proofs.Grounds.{store-wrong-size, store-past, store-held, store-done}
 use Rattle.slots.proofs.calls.store_into.Statement.{statement}
 use Rattle.slots.proofs.calls.store_into.Tie as tie
 
 -- a span that passes the end
 past : (c : tie.Else1) → let s = c .before .before .before .before .args in s .z .entries < s .first + length (s .bytes .now) / 5
-    → leaves 4 (s .list .now) ≡ storeHeard (s .z) (s .a) (s .p) (s .list .now) (s .first) (s .bytes .now)
+    → leaves 4 (s .list .now) ≡ storeReport (s .z) (s .a) (s .p) (s .list .now) (s .first) (s .bytes .now)
 past c h = store-past _ _ _ _ _ _ (not-false _ (c .if1 .left)) h
 
 -- the bytes of a span within list memory have room there
@@ -29,7 +29,7 @@ room c h =
 
 touched : (c : tie.After-held2) (t : Bool) → let s = c .before .before .before .before .before .before .before .before .before .before .args in
     (c .before .held .result || c .held2 .result) ≡ t
-    → (touches (s .a) (s .first) (length (s .bytes .now) / 5) || touches (s .p) (s .first) (length (s .bytes .now) / 5)) ≡ t
+    → (holdsAny (s .a) (s .first) (length (s .bytes .now) / 5) || holdsAny (s .p) (s .first) (length (s .bytes .now) / 5)) ≡ t
 touched c t h = ap₂ _||_ (sym (c .before .held .ensures)) (sym (c .held2 .ensures)) ∙ h
 
 cast-if1 : tie.Need-cast-if1

@@ -8,14 +8,15 @@ use lib.Dec.{eqb, leb}
 use lib.ListN.{length}
 use Rattle.lemmas.proofs.Booleans.{and-right}
 use Rattle.geometry.proofs.Clips.{product-fits}
-use Rattle.slots.specs.Calls.{leaves, writeHeard}
+use Rattle.slots.specs.Slots.{areaOf}
+use Rattle.slots.specs.Calls.{leaves, writeReport}
 use Rattle.slots.proofs.Grounds.{write-wrong-size, write-past, write-busy, write-done}
 use Rattle.slots.proofs.calls.write_into.Statement.{statement}
 use Rattle.slots.proofs.calls.write_into.Tie as tie
 
 -- a span that passes the end
-past : (c : tie.Else1) → let s = c .before .before .before .before .before .args in s .z .width * s .z .height < s .offset + length (s .bytes .now)
-    → leaves 4 (s .buffer .now) ≡ writeHeard (s .z) (s .a) (s .p) (s .number) (s .offset) (s .bytes .now) (s .buffer .now)
+past : (c : tie.Else1) → let s = c .before .before .before .before .before .before .args in areaOf (s .z) < s .offset + length (s .bytes .now)
+    → leaves 4 (s .buffer .now) ≡ writeReport (s .z) (s .a) (s .p) (s .number) (s .offset) (s .bytes .now) (s .buffer .now)
 past c h = write-past _ _ _ _ _ _ _ (not-false _ (c .if1 .left)) h
 
 cast-area : tie.Need-cast-area
@@ -26,8 +27,8 @@ cast-area-2 c = search needs
 
 mul-area : tie.Need-mul-area
 mul-area c =
-    let z = c .before .before .before .before .args .z in
-    omega (arith, product-fits (z .width) (z .height) (search needs) (search needs))
+    let x = c .before .before .before .before .before .args .z .extent in
+    omega (arith, product-fits (x .width) (x .height) (search needs) (search needs))
 
 returns : tie.Need-returns
 returns c = write-wrong-size _ _ _ _ _ _ _ (not-true _ (c .if1 .taken))
@@ -46,11 +47,11 @@ returns-4 c =
 put-requires : tie.Need-put-requires
 put-requires c κs =
     let named = c .before .before .before .before .before .before in
-    let s = named .before .before .before .before .before .args in
+    let s = named .before .before .before .before .before .before .args in
     let one = leb (s .number) 1 in
-    let whole = eqb (length (s .buffer .now)) (s .z .width * s .z .height) in
+    let whole = eqb (length (s .buffer .now)) (areaOf (s .z)) in
     let both : (one && whole) ≡ true = not-false (one && whole) (named .if1 .left) in
-    omega (arith, eqb-true (length (s .buffer .now)) (s .z .width * s .z .height) (and-right one whole both))
+    omega (arith, eqb-true (length (s .buffer .now)) (areaOf (s .z)) (and-right one whole both))
 
 same-length : tie.Need-same-length
 same-length c = search needs

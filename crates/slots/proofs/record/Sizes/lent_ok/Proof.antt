@@ -1,8 +1,10 @@
-use borrow.Author.Needs.{needs}
-use native.Mathlib.Omega.{arith}
 use Rattle.geometry.proofs.Clips.{product-fits}
+use native.Mathlib.Omega.{arith}
+use borrow.Author.Needs.{needs}
 use Rattle.slots.proofs.record.Sizes.lent_ok.Statement.{statement}
 use Rattle.slots.proofs.record.Sizes.lent_ok.Tie as tie
+use Rattle.slots.proofs.record.Sizes.lent_ok.Reads as reads
+use Rattle.slots.proofs.record.Sizes.lent_ok.Lts as lts
 
 cast-area : tie.Need-cast-area
 cast-area c = search needs
@@ -11,7 +13,9 @@ cast-area-2 : tie.Need-cast-area-2
 cast-area-2 c = search needs
 
 mul-area : tie.Need-mul-area
-mul-area c = omega (arith, product-fits (c .before .before .args .self .width) (c .before .before .args .self .height) (search needs) (search needs))
+mul-area c =
+    let x = c .before .before .before .args .self .extent in
+    omega (arith, product-fits (x .width) (x .height) (search needs) (search needs))
 
 cast-result : tie.Need-cast-result
 cast-result c = search needs

@@ -2,21 +2,21 @@ use borrow.Author.Needs.{needs}
 use mathlib.Core.Path.{_≡_}
 use Prim.Native.Nat.{_+_, _<_}
 use native.Mathlib.Omega.{arith}
-use Rattle.entries.specs.declared.legality.Illegal.{Illegal}
-use Rattle.slots.specs.Answers.{told}
-use Rattle.slots.specs.Calls.{judgedBy, postHeard}
+use Rattle.lists.specs.declared.spans.Illegal.{Illegal}
+use Rattle.answers.specs.Reports.{report}
+use Rattle.slots.specs.Calls.{judgedBy, postReport}
 use Rattle.slots.proofs.Grounds.{post-wrong-size, post-none, post-past, post-full, post-judged}
-use Rattle.slots.proofs.calls.post_heard.Statement.{statement}
-use Rattle.slots.proofs.calls.post_heard.Tie as tie
+use Rattle.slots.proofs.calls.post_status.Statement.{statement}
+use Rattle.slots.proofs.calls.post_status.Tie as tie
 
 -- a span that passes the end
 past : (c : tie.Else2) → let s = c .before .before .before .before .args in s .z .entries < s .start + s .count
-    → told 4 0 0 ≡ postHeard (s .z) (s .a) (s .p) (s .list .now) (s .start) (s .count)
+    → report 4 0 0 ≡ postReport (s .z) (s .a) (s .p) (s .list .now) (s .start) (s .count)
 past c h = post-past _ _ _ _ _ _ (c .before .if1 .left) (c .if2 .left) h
 
 -- a span within list memory, judged by its first illegal entry
 judged : (c : tie.After-first-illegal) → let s = c .before .before .before .before .before .before .before .before .before .before .before .before .args in (j : Illegal) → c .first-illegal .result ≡ j
-    → judgedBy j ≡ postHeard (s .z) (s .a) (s .p) (s .list .now) (s .start) (s .count)
+    → judgedBy j ≡ postReport (s .z) (s .a) (s .p) (s .list .now) (s .start) (s .count)
 judged c j e =
     let full = c .before in
     let more = full .before .before .before .before .before .before .before in
@@ -54,6 +54,12 @@ returns-5 c =
     let more = c .before .before .before .before .before .before .before in
     post-full _ _ _ _ _ _ (more .before .if1 .left) (more .if2 .left) (omega arith) (c .if5 .taken)
 
+cast-t13 : tie.Need-cast-t13
+cast-t13 c = search needs
+
+cast-t14 : tie.Need-cast-t14
+cast-t14 c = search needs
+
 first-illegal-requires : tie.Need-first-illegal-requires
 first-illegal-requires c κs = search needs
 
@@ -69,8 +75,8 @@ returns-6 c = judged (c .before .before .before) _ (c .before .place .given .1)
 returns-7 : tie.Need-returns-7
 returns-7 c = judged (c .before .before) _ (c .enum-told .given .1)
 
-pub post-heard-spec : {M : Type 1} → statement M
-post-heard-spec =
+pub post-status-spec : {M : Type 1} → statement M
+post-status-spec =
     tie.close
     (tie.spec
     cast-if1
@@ -83,6 +89,8 @@ post-heard-spec =
     sub-if4
     returns-4
     returns-5
+    cast-t13
+    cast-t14
     first-illegal-requires
     enum-known-place
     enum-told
