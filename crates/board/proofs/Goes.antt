@@ -1,100 +1,112 @@
 -- Runs: how they begin, go on and compose.
 -- Assumes nothing.
 use mathlib.Core.Path.{_≡_, refl, ap, sym, subst, _∙_}
-use mathlib.Core.Logic.{_⊎_, ⊎-elim}
-use mathlib.Core.Bool.{Bool, true, false, _||_, false≢true}
+use mathlib.Core.Bool.{Bool, true, false, cond, _&&_, false≢true}
 use mathlib.Core.List.{List}
 use Prim.Native.Nat.{ℕ, zero, suc, _+_, _-_, _≤_, _<_}
 use native.Mathlib.Numerals.{add-one}
 use native.Mathlib.Omega.{arith}
-use borrow.Author.Tests.{eqb-true, lt-ltb, le-ltb}
-use lib.Dec.{eqb, ltb}
+use borrow.Author.Tests.{ltb-true, ltb-false, lt-ltb}
+use lib.Dec.{ltb}
 use lib.ListN.{length}
-use Rattle.lemmas.proofs.Booleans.{by-cases, or-first, or-none-left, or-none-right}
-use Rattle.commands.specs.Steps.{Scene, takenOf}
-use Rattle.leaps.specs.Stretches.{nextIn, Stretched, stopped, longer, byStep, stretchOf}
-use Rattle.leaps.proofs.Stretching.{visit-one, take-one, stops, Within, within, none-done}
-use Rattle.slots.specs.Slots.{endOf}
+use Rattle.lemmas.proofs.Booleans.{by-cases, and-left, and-right, second-of}
+use Rattle.geometry.specs.declared.Extent.{Extent}
+use Rattle.entries.specs.declared.decoding.Entry.{Entry}
+use Rattle.lists.specs.Spans.{endOf}
+use Rattle.lists.specs.Cursors.{nextOf, fetchedOf, endedOf}
+use Rattle.lists.specs.declared.cursors.Cursor.{Cursor}
+use Rattle.lists.specs.declared.cursors.Next.{Next}
+use Rattle.lists.specs.declared.cursors.Next.the-variants.{Ended, Visit, Take, Broken}
+use Rattle.lists.proofs.Fetches.{next-ended, ended-next}
+use Rattle.commands.specs.Steps.{Scene, visitOf, takenOf}
+use Rattle.leaps.specs.ListRuns.{Reached, stopped, longer, byStep, runFrom, listRun}
+use Rattle.leaps.proofs.Running.{by-next, run-fits, Within, within}
+use Rattle.answers.specs.Reports.{report}
+use Rattle.slots.proofs.Slotted.{active-inside, active-end, live-of}
 use Rattle.board.specs.Record.{wellFormed}
-use Rattle.board.specs.Steps.{Machine, machine, withEngine, withNext, nextOf, settledOf, takenBy, sceneOf, visitedScene, visitedOf, actOf, stepOf}
-use Rattle.slots.specs.Answers.{told}
-use Rattle.board.specs.Runs.{Outcome, ended, added, byNext, runOf, Leaped, LeapOk}
+use Rattle.board.specs.Steps.{Machine, machine, nextOn, withSteps, settledOf, movedTo, sceneOf, actOf, stepOf}
+use Rattle.board.specs.Runs.{Outcome, ended, added, byNext, runOf, Leaped}
 use Rattle.board.specs.Left.{RunsCompose}
 use Rattle.board.specs.declared.record.Board.{Board}
-use Rattle.board.specs.declared.runs.Leap.{Leap}
-use Rattle.leaps.specs.declared.stretches.Next.{Next}
-use Rattle.leaps.specs.declared.stretches.Next.the-variants.{Idle, Visit, Take, Broken}
-use Rattle.board.proofs.Forms.{Good, good-of, zero-of, span-of, entries-most, next-below, next-within}
-use Rattle.board.proofs.Chosen.{chosen}
-use Rattle.board.proofs.Keeps.{stays-well-formed}
+use Rattle.board.proofs.Forms.{Good, good-of, entries-most, at-rest}
+use Rattle.board.proofs.Keeps.{followed, stays-well-formed}
 
 -- ---- one step of a run
 
-run-by : (l : List ℕ) (m : Machine) (x : Next) (k : ℕ) → nextOf l (m .board) ≡ x → runOf (suc k) l m ≡ byNext x m (runOf k l (stepOf l m))
+run-by : (l : List ℕ) (m : Machine) (x : Next) (k : ℕ) → nextOn l (m .board) ≡ x → runOf (suc k) l m ≡ byNext x m (runOf k l (stepOf l m))
 unfolding runOf
 run-by l m x k e = ap (λ x. byNext x m (runOf k l (stepOf l m))) e
 
-step-by : (l : List ℕ) (m : Machine) (x : Next) → nextOf l (m .board) ≡ x → stepOf l m ≡ actOf x m
+step-by : (l : List ℕ) (m : Machine) (x : Next) → nextOn l (m .board) ≡ x → stepOf l m ≡ actOf x m
 unfolding stepOf
 step-by l m x e = ap (λ x. actOf x m) e
-
-visits-next : (l : List ℕ) (b : Board) → b .engine .«under_way» ≡ true → nextOf l b ≡ Visit
-unfolding nextOf
-visits-next l b e = rw e
 
 -- ---- sums of steps
 
 added-none : (o : Outcome) → o ≡ added 0 o
-added-none o i = record { heard = told (o .heard .number) (o .heard .place) (same i); after = o .after }
+added-none o i = record { report = report (o .report .number) (o .report .place) (same i); after = o .after }
   where
-    same : o .heard .steps ≡ o .heard .steps + 0
+    same : o .report .steps ≡ o .report .steps + 0
     same = omega arith
 
 added-added : (j k : ℕ) (o : Outcome) → added j (added k o) ≡ added (k + j) o
-added-added j k o i = record { heard = told (o .heard .number) (o .heard .place) (same i); after = o .after }
+added-added j k o i = record { report = report (o .report .number) (o .report .place) (same i); after = o .after }
   where
-    same : o .heard .steps + k + j ≡ o .heard .steps + (k + j)
+    same : o .report .steps + k + j ≡ o .report .steps + (k + j)
     same = omega arith
 
--- ---- steps of one list are a leap
+-- ---- a run of one list is a leap
 
--- a list with pixels or entries left
-abbrev live : Board → Bool
-live b = b .engine .«under_way» || ltb (b .active .next) (endOf (b .active .slot))
+-- whether the active list has neither entries nor pixels left
+abbrev over : Board → Bool
+over b = endedOf (b .active .cursor) (b .engine .«under_way»)
 
-settle-live : (b : Board) → live b ≡ true → settledOf b ≡ b
+settle-live : (b : Board) → over b ≡ false → settledOf b ≡ b
 unfolding settledOf
-settle-live b e = rw e
+settle-live b h = sym (second-of (over b) (followed b) b h)
 
--- the record after steps of its active list, with its buffers
-abbrev pub movedBy : Machine → Stretched → Machine
-movedBy m r = machine (settledOf (withEngine (withNext (m .board) (r .next)) (r .after .engine))) (r .after .display) (r .after .virt)
+-- the machine after steps of its active list
+abbrev pub after : Machine → Reached → Machine
+after m r = movedTo m (r .cursor) (r .after)
 
--- a stretch leads to where a run of so many steps does
-record Leads (l : List ℕ) (m : Machine) (r : Stretched) : Type 0 where
-  well : wellFormed (movedBy m r .board) ≡ true
-  run : (k : ℕ) → runOf (k + r .steps) l m ≡ added (r .steps) (runOf k l (movedBy m r))
+-- steps of the list lead to where a run of so many steps does
+record Leads (l : List ℕ) (m : Machine) (r : Reached) : Type 0 where
+  well : wellFormed (after m r .board) ≡ true
+  run : (k : ℕ) → runOf (k + r .steps) l m ≡ added (r .steps) (runOf k l (after m r))
+  stops : r .broken ≡ true → nextOn l (after m r .board) ≡ Broken
 
-leads-none : (l : List ℕ) (m : Machine) → wellFormed (m .board) ≡ true → live (m .board) ≡ true
-    → Leads l m (stopped (m .board .active .next) (sceneOf m))
-leads-none l m w e =
+leads-none : (l : List ℕ) (m : Machine) (broken : Bool) → wellFormed (m .board) ≡ true → over (m .board) ≡ false
+    → (broken ≡ true → nextOn l (m .board) ≡ Broken) → Leads l m (stopped (m .board .active .cursor) (sceneOf m) broken)
+leads-none l m broken w e stop =
     let here = settle-live (m .board) e in
     record {
       well = subst (λ b. wellFormed b ≡ true) (sym here) w;
       run = λ k.
           ap (λ k. runOf k l m) (none k) ∙ added-none (runOf k l m) ∙ ap (λ b. added 0 (runOf k l (machine b (m .display) (m .virt)))) (sym here);
+      stops = λ t. subst (λ b. nextOn l b ≡ Broken) (sym here) (stop t);
     }
   where
     none : (k : ℕ) → k + 0 ≡ k
     none k = omega arith
 
--- one step to the record o before it is settled, and a stretch from there
-leads-more : (l : List ℕ) (m o : Machine) (x : Next) (r : Stretched) → nextOf l (m .board) ≡ x → ((o : Outcome) → byNext x m o ≡ added 1 o)
-    → wellFormed (m .board) ≡ true → actOf x m ≡ machine (settledOf (o .board)) (o .display) (o .virt) → movedBy m r ≡ movedBy o r
-    → (wellFormed (o .board) ≡ true → live (o .board) ≡ true → Leads l o r)
-    → (live (o .board) ≡ false → r ≡ stopped (o .board .active .next) (sceneOf o)) → Leads l m (longer 1 r)
-leads-more l m o x r e goes w acts same more over =
-    by-cases (live (o .board))
+-- one step to the record o before it is settled, and a run of the list from there
+leads-more : (l : List ℕ) (m o : Machine) (x : Next) (r : Reached) → nextOn l (m .board) ≡ x → ((o : Outcome) → byNext x m o ≡ added 1 o)
+    → wellFormed (m .board) ≡ true → actOf x m ≡ machine (settledOf (o .board)) (o .display) (o .virt) → after m r ≡ after o r
+    → (wellFormed (o .board) ≡ true → over (o .board) ≡ false → Leads l o r)
+    → (over (o .board) ≡ true → r ≡ stopped (o .board .active .cursor) (sceneOf o) false) → Leads l m (longer 1 r)
+leads-more l m o x r e goes w acts same more none-more =
+    by-cases (over (o .board))
+    (λ t.
+    let there : after m r ≡ stepOf l m = same ∙ ap (after o) (none-more t) ∙ sym stepped in
+    let none : r .steps ≡ 0 = ap (λ (r : Reached). r .steps) (none-more t) in
+    let single : r .steps + 1 ≡ 1 = omega arith in
+    record {
+      well = subst (λ n. wellFormed (n .board) ≡ true) (sym there) (stays-well-formed l m w);
+      run = λ k.
+          ap (λ j. runOf (k + j) l m) single ∙ ap (λ j. runOf j l m) (add-one k) ∙ one k
+          ∙ ap (λ n. added 1 (runOf k l n)) (sym there) ∙ ap (λ j. added j (runOf k l (after m r))) (sym single);
+      stops = λ b. absurd (false≢true (sym (ap (λ (r : Reached). r .broken) (none-more t)) ∙ b));
+    })
     (λ t.
     let here : stepOf l m ≡ o = stepped ∙ ap (λ b. machine b (o .display) (o .virt)) (settle-live (o .board) t) in
     let on = more (subst (λ n. wellFormed (n .board) ≡ true) here (stays-well-formed l m w)) t in
@@ -102,18 +114,9 @@ leads-more l m o x r e goes w acts same more over =
       well = subst (λ n. wellFormed (n .board) ≡ true) (sym same) (on .well);
       run = λ k.
           ap (λ j. runOf j l m) (regroup k) ∙ one (k + r .steps) ∙ ap (λ n. added 1 (runOf (k + r .steps) l n)) here
-          ∙ ap (added 1) (on .run k) ∙ added-added 1 (r .steps) (runOf k l (movedBy o r))
+          ∙ ap (added 1) (on .run k) ∙ added-added 1 (r .steps) (runOf k l (after o r))
           ∙ ap (λ n. added (r .steps + 1) (runOf k l n)) (sym same);
-    })
-    (λ t.
-    let there : movedBy m r ≡ stepOf l m = same ∙ ap (movedBy o) (over t) ∙ sym stepped in
-    let none : r .steps ≡ 0 = ap (λ (r : Stretched). r .steps) (over t) in
-    let single : r .steps + 1 ≡ 1 = omega arith in
-    record {
-      well = subst (λ n. wellFormed (n .board) ≡ true) (sym there) (stays-well-formed l m w);
-      run = λ k.
-          ap (λ j. runOf (k + j) l m) single ∙ ap (λ j. runOf j l m) (add-one k) ∙ one k
-          ∙ ap (λ n. added 1 (runOf k l n)) (sym there) ∙ ap (λ j. added j (runOf k l (movedBy m r))) (sym single);
+      stops = λ b. subst (λ n. nextOn l (n .board) ≡ Broken) (sym same) (on .stops b);
     })
   where
     stepped : stepOf l m ≡ machine (settledOf (o .board)) (o .display) (o .virt)
@@ -125,133 +128,70 @@ leads-more l m o x r e goes w acts same more over =
     regroup : (k : ℕ) → k + (r .steps + 1) ≡ suc (k + r .steps)
     regroup k = omega arith
 
--- the step of a list is that of the board
-same-next : (l : List ℕ) (b : Board) → Good b → nextIn l (endOf (b .active .slot)) (b .engine) (b .active .next) ≡ nextOf l b
-unfolding nextIn nextOf
-same-next l b g =
-    let s = b .active .slot in
-    by-cases (b .engine .«under_way») (λ u. rw u)
-    (λ u.
-    rw u
-    (by-cases (s .taken) (λ t. rw (t, lt-ltb (b .active .next) (endOf s) (next-below b g t u .before)))
-    (λ t. let z = zero-of s (g .active-zeros) t in rw (t, le-ltb (b .active .next) (endOf s) (omega arith)))))
+-- a run of the active list
+abbrev onList : ℕ → List ℕ → Machine → Reached
+onList budget l m = runFrom budget l (m .board .sizes .extent) (m .board .active .cursor) (sceneOf m)
 
-at-end : (l : List ℕ) (b : Board) → live b ≡ false → nextIn l (endOf (b .active .slot)) (b .engine) (b .active .next) ≡ Idle
-unfolding nextIn
-at-end l b h =
-    let u = b .engine .«under_way» in
-    let more = ltb (b .active .next) (endOf (b .active .slot)) in
-    rw (or-none-left u more h, or-none-right u more h)
-
--- a stretch of the active list
-abbrev pub stretchIn : ℕ → List ℕ → Machine → Stretched
-stretchIn most l m =
-    stretchOf most l (endOf (m .board .active .slot)) (m .board .sizes .width) (m .board .sizes .height) (m .board .active .next) (sceneOf m)
-
--- at its end a list has no stretch
-ended-stretch : (most : ℕ) (l : List ℕ) (m : Machine) → live (m .board) ≡ false → stretchIn most l m ≡ stopped (m .board .active .next) (sceneOf m)
-ended-stretch most l m t =
+-- at its end a list has no steps
+ended-list : (budget : ℕ) (l : List ℕ) (m : Machine) → over (m .board) ≡ true
+    → onList budget l m ≡ stopped (m .board .active .cursor) (sceneOf m) false
+unfolding runFrom
+ended-list zero l m h = refl
+ended-list (suc budget) l m h =
     let b = m .board in
-    stops l (endOf (b .active .slot)) (b .sizes .width) (b .sizes .height) most (b .active .next) (sceneOf m) Idle (at-end l b t) (λ _ _. refl)
+    by-next l (b .sizes .extent) budget (b .active .cursor) (sceneOf m) Ended (ended-next l (b .active .cursor) (b .engine .«under_way») h)
 
-stretch-leads : (most : ℕ) (l : List ℕ) (m : Machine) → wellFormed (m .board) ≡ true → live (m .board) ≡ true → Leads l m (stretchIn most l m)
-unfolding stretchOf visitedOf takenBy
-stretch-leads zero l m w e = leads-none l m w e
-stretch-leads (suc most) l m w e = go (stretch-leads most l) (nextOf l (m .board)) refl
+list-leads : (budget : ℕ) (l : List ℕ) (m : Machine) → wellFormed (m .board) ≡ true → over (m .board) ≡ false → Leads l m (onList budget l m)
+unfolding runFrom
+list-leads zero l m w e = leads-none l m false w e (λ f. absurd (false≢true f))
+list-leads (suc budget) l m w e = go (list-leads budget l) (nextOn l (m .board)) refl
   where
     b : Board
     b = m .board
 
-    next-is : (x : Next) → nextOf l b ≡ x → nextIn l (endOf (b .active .slot)) (b .engine) (b .active .next) ≡ x
-    next-is x h = same-next l b (good-of b w) ∙ h
+    by : (x : Next) → nextOn l b ≡ x
+        → onList (suc budget) l m
+        ≡ byStep (b .sizes .extent) x (b .active .cursor) (sceneOf m) (runFrom budget l (b .sizes .extent) (b .active .cursor) (visitOf (b .sizes .extent) (sceneOf m)))
+        (runFrom budget l (b .sizes .extent))
+    by x h = by-next l (b .sizes .extent) budget (b .active .cursor) (sceneOf m) x h
 
-    stays : (x : Next) → nextOf l b ≡ x → ((o : Stretched) (f : ℕ → Scene → Stretched) → byStep x (b .active .next) (sceneOf m) o f ≡ stopped (b .active .next) (sceneOf m))
-        → Leads l m (stretchIn (suc most) l m)
-    stays x h none =
-        subst (Leads l m)
-        (sym (stops l (endOf (b .active .slot)) (b .sizes .width) (b .sizes .height) (suc most) (b .active .next) (sceneOf m) x (next-is x h) none))
-        (leads-none l m w e)
-
-    go : ((o : Machine) → wellFormed (o .board) ≡ true → live (o .board) ≡ true → Leads l o (stretchIn most l o)) → (x : Next) → nextOf l b ≡ x
-        → Leads l m (stretchIn (suc most) l m)
-    go rest Idle h = stays Idle h (λ _ _. refl)
+    go : ((o : Machine) → wellFormed (o .board) ≡ true → over (o .board) ≡ false → Leads l o (onList budget l o)) → (x : Next) → nextOn l b ≡ x
+        → Leads l m (onList (suc budget) l m)
+    go rest Ended h = subst (Leads l m) (sym (by Ended h)) (leads-none l m false w e (λ f. absurd (false≢true f)))
     go rest Visit h =
-        let s = visitedScene m in
-        let o = machine (withEngine b (s .engine)) (s .display) (s .virt) in
-        subst (Leads l m)
-        (sym (visit-one l (endOf (b .active .slot)) (b .sizes .width) (b .sizes .height) most (b .active .next) (sceneOf m) (chosen l b Visit h)))
-        (leads-more l m o Visit (stretchIn most l o) h (λ _. refl) w refl refl (rest o) (ended-stretch most l o))
+        let s = visitOf (b .sizes .extent) (sceneOf m) in
+        let o = machine (withSteps b (b .active .cursor) (s .engine)) (s .display) (s .virt) in
+        subst (Leads l m) (sym (by Visit h))
+        (leads-more l m o Visit (onList budget l o) h (λ _. refl) w refl refl (rest o) (ended-list budget l o))
     go rest (Take x) h =
-        let o = machine (withEngine (withNext b (b .active .next + 1)) (takenOf (b .engine) x)) (m .display) (m .virt) in
-        subst (Leads l m)
-        (sym (take-one l (endOf (b .active .slot)) (b .sizes .width) (b .sizes .height) most (b .active .next) (sceneOf m) x (next-is (Take x) h)))
-        (leads-more l m o (Take x) (stretchIn most l o) h (λ _. refl) w refl refl (rest o) (ended-stretch most l o))
-    go rest Broken h = stays Broken h (λ _ _. refl)
-
--- the next entry is within the active list, or its end
-next-in : (b : Board) → Good b → b .active .next ≤ endOf (b .active .slot)
-next-in b g =
-    by-cases (b .engine .«under_way») (λ u. next-within b g u .within)
-    (λ u.
-    by-cases (b .active .slot .taken) (λ t. omega (arith, next-below b g t u .before))
-    (λ t. omega (arith, eqb-true (b .active .next) 0 (or-first (b .active .slot .taken) (eqb (b .active .next) 0) (g .next-zero) t))))
-
-end-most : (b : Board) → Good b → endOf (b .active .slot) ≤ 4096
-end-most b g =
-    let s = b .active .slot in
-    by-cases (s .taken) (λ t. omega (arith, span-of s (b .sizes .entries) (g .active-span) t .inside, entries-most b g))
-    (λ t. let z = zero-of s (g .active-zeros) t in omega arith)
+        let s = takenOf (b .sizes .extent) (sceneOf m) x in
+        let o = machine (withSteps b (fetchedOf (b .active .cursor)) (s .engine)) (s .display) (s .virt) in
+        subst (Leads l m) (sym (by (Take x) h))
+        (leads-more l m o (Take x) (onList budget l o) h (λ _. refl) w refl refl (rest o) (ended-list budget l o))
+    go rest Broken h = subst (Leads l m) (sym (by Broken h)) (leads-none l m true w e (λ _. h))
 
 -- what the steps of the active list answer
-module _ (most : ℕ) (l : List ℕ) (m : Machine) (w : wellFormed (m .board) ≡ true) (r : Stretched) (is : r ≡ stretchIn most l m) where
-  g : Good (m .board)
-  g = good-of (m .board) w
-
-  kept : Within l (endOf (m .board .active .slot)) (m .board .sizes .width) (m .board .sizes .height) most r
-  kept =
-      subst (λ r. Within l (endOf (m .board .active .slot)) (m .board .sizes .width) (m .board .sizes .height) most r) (sym is)
-      (within l (endOf (m .board .active .slot)) (m .board .sizes .width) (m .board .sizes .height) most (m .board .active .next) (sceneOf m) (next-in (m .board) g))
-
-  pub leap-next : r .next ≤ 4096
-  leap-next = omega (arith, kept .inside, end-most (m .board) g)
-
-  -- some steps
-  pub leap-far : 0 < r .steps → Leaped l m most (r .steps) (movedBy m r)
-  leap-far some =
-      by-cases (live (m .board))
-      (λ t.
-      let on = subst (Leads l m) (sym is) (stretch-leads most l m w t) in
-      record { some = omega (arith, some); few = kept .few; well = on .well; run = on .run })
-      (λ t.
-      let none : r .steps ≡ 0 = ap (λ (r : Stretched). r .steps) (is ∙ ended-stretch most l m t) in
-      absurd (omega (arith, some)))
-
-  -- none: the board is idle, or the next entry is illegal
-  module _ (asked : 1 ≤ most) (none : r .steps ≡ 0) where
-    b : Board
-    b = m .board
-
-    found : (stretchIn most l m ≡ stopped (b .active .next) (sceneOf m))
-        × ((nextIn l (endOf (b .active .slot)) (b .engine) (b .active .next) ≡ Idle) ⊎ (nextIn l (endOf (b .active .slot)) (b .engine) (b .active .next) ≡ Broken))
-    unfolding b
-    found =
-        none-done l (endOf (b .active .slot)) (b .sizes .width) (b .sizes .height) most (b .active .next) (sceneOf m) (omega (arith, asked))
-        (ap (λ (r : Stretched). r .steps) (sym is) ∙ none)
-
-    pub leap-stood : r .after ≡ sceneOf m
-    unfolding b
-    leap-stood = ap (λ (r : Stretched). r .after) (is ∙ found .0)
-
-    pub leap-idle : m .board .active .slot .taken ≡ false → nextOf l (m .board) ≡ Idle
-    unfolding b
-    leap-idle t =
-        ⊎-elim (λ h. sym (same-next l b g) ∙ h)
-        (λ h. absurd (false≢true (sym t ∙ chosen l b Broken (sym (same-next l b g) ∙ h) .1))) (found .1)
-
-    pub leap-broken : m .board .active .slot .taken ≡ true → nextOf l (m .board) ≡ Broken
-    unfolding b
-    leap-broken t =
-        ⊎-elim (λ h. absurd (false≢true (sym (chosen l b Idle (sym (same-next l b g) ∙ h) .1) ∙ t))) (λ h. sym (same-next l b g) ∙ h) (found .1)
+pub leap-is : (budget : ℕ) (l : List ℕ) (m n : Machine) (r : Reached) → wellFormed (m .board) ≡ true → m .board .active .taken ≡ true → 1 ≤ budget
+    → r ≡ listRun budget l (m .board .sizes .extent) (m .board .active .cursor) (sceneOf m) → n ≡ after m r
+    → Leaped l m budget (r .steps) (r .broken) n
+leap-is budget l m n r w t asked is to =
+    let b = m .board in
+    let g = good-of b w in
+    let c = b .active .cursor in
+    let fits = run-fits l (b .sizes .extent) budget c (sceneOf m)
+    (omega (arith, active-inside (b .active) (b .sizes .entries) (b .engine .«under_way») (g .active), entries-most (b .sizes) (g .sizes))) in
+    let same : r ≡ onList budget l m = is ∙ sym fits in
+    let live = live-of (b .active) (b .sizes .entries) (b .engine .«under_way») (g .active) t in
+    let on = subst (Leads l m) (sym same) (list-leads budget l m w live) in
+    let kept = subst (λ r. Within budget (c) (sceneOf m) r) (sym same) (within l (b .sizes .extent) budget c (sceneOf m)) in
+    record {
+      few = kept .few;
+      well = subst (λ n. wellFormed (n .board) ≡ true) (sym to) (on .well);
+      run = λ k. on .run k ∙ ap (λ n. added (r .steps) (runOf k l n)) (sym to);
+      some = λ f. kept .some live asked f;
+      early = kept .early;
+      stops = λ h. subst (λ n. nextOn l (n .board) ≡ Broken) (sym to) (on .stops h);
+    }
 
 -- ---- the loop of a run: k steps are done, and the rest of the run is that from here
 pub record Running (budget : ℕ) (l : List ℕ) (m₀ : Machine) (k : ℕ) (m : Machine) : Type 0 where
@@ -272,10 +212,10 @@ running-start budget l m w =
       same = sym (added-none (runOf (budget - 0) l m)) ∙ ap (λ k. runOf k l m) e;
     }
 
-pub running-more : (budget : ℕ) (l : List ℕ) (m₀ : Machine) (k j : ℕ) (m n : Machine) → k < budget → Leaped l m (budget - k) j n
-    → length (n .display) ≡ length (m .display) → length (n .virt) ≡ length (m .virt) → Running budget l m₀ k m
-    → Running budget l m₀ (k + j) n
-running-more budget l m₀ k j m n h a ld lv r =
+pub running-more : (budget : ℕ) (l : List ℕ) (m₀ : Machine) (k j : ℕ) (broken : Bool) (m n : Machine) → k < budget
+    → Leaped l m (budget - k) j broken n → length (n .display) ≡ length (m .display) → length (n .virt) ≡ length (m .virt)
+    → Running budget l m₀ k m → Running budget l m₀ (k + j) n
+running-more budget l m₀ k j broken m n h a ld lv r =
     let rest = budget - (k + j) in
     let split : budget - k ≡ rest + j = omega (arith, a .few) in
     let swap : k + j ≡ j + k = omega arith in
@@ -290,42 +230,55 @@ running-more budget l m₀ k j m n h a ld lv r =
     }
 
 -- the run is over: no step is left, or the next entry is illegal
-pub running-stops : (budget : ℕ) (l : List ℕ) (m₀ : Machine) (k : ℕ) (m : Machine) (x : Next) (number : ℕ) (d v : List ℕ) → k < budget
-    → nextOf l (m .board) ≡ x → ((o : Outcome) → byNext x m o ≡ ended number m) → d ≡ m .display → v ≡ m .virt → Running budget l m₀ k m
-    → _≡_ {A = Outcome} (record { heard = told number 0 k; after = machine (m .board) d v }) (runOf budget l m₀)
-running-stops budget l m₀ k m x number d v h e stops p q r =
+pub running-stops : (budget : ℕ) (l : List ℕ) (m₀ : Machine) (k : ℕ) (m : Machine) (x : Next) (number : ℕ) → k < budget
+    → nextOn l (m .board) ≡ x → ((o : Outcome) → byNext x m o ≡ ended number m) → Running budget l m₀ k m
+    → _≡_ {A = Outcome} (record { report = report number 0 k; after = m }) (runOf budget l m₀)
+running-stops budget l m₀ k m x number h e stops r =
     let j = budget - (k + 1) in
     let split : budget - k ≡ suc j = omega arith in
     let none : k ≡ 0 + k = omega arith in
-    (λ i. record { heard = told number 0 (none i); after = machine (m .board) (p i) (q i) })
+    (λ i. record { report = report number 0 (none i); after = m })
     ∙ ap (added k) (sym (run-by l m x j e ∙ stops (runOf j l (stepOf l m)))) ∙ ap (λ i. added k (runOf i l m)) (sym split) ∙ r .same
 
--- the run is over: the budget is spent
-pub running-spent : (budget : ℕ) (l : List ℕ) (m₀ : Machine) (k : ℕ) (m : Machine) → budget ≤ k → Running budget l m₀ k m
-    → _≡_ {A = Outcome} (record { heard = told 0 0 k; after = m }) (runOf budget l m₀)
+-- an illegal entry within the budget
+pub running-broken : (budget : ℕ) (l : List ℕ) (m₀ : Machine) (k j : ℕ) (m n : Machine) → k < budget → Leaped l m (budget - k) j true n
+    → Running budget l m₀ (k + j) n → _≡_ {A = Outcome} (record { report = report 9 0 (k + j); after = n }) (runOf budget l m₀)
+running-broken budget l m₀ k j m n h a r =
+    running-stops budget l m₀ (k + j) n Broken 9 (omega (arith, a .early refl)) (a .stops refl) (λ _. refl) r
+
+-- the loop ends: the budget is spent, or no list is left
+pub running-over : (budget : ℕ) (l : List ℕ) (m₀ : Machine) (k : ℕ) (m : Machine) → (ltb k budget && m .board .active .taken) ≡ false
+    → Running budget l m₀ k m → _≡_ {A = Outcome} (record { report = report 0 0 k; after = m }) (runOf budget l m₀)
 unfolding runOf
-running-spent budget l m₀ k m h r =
+running-over budget l m₀ k m h r =
+    by-cases (ltb k budget)
+    (λ t.
+    let b = m .board in
+    let g = good-of b (r .well) in
+    let free : b .active .taken ≡ false = ap (λ t. t && b .active .taken) (sym t) ∙ h in
+    let u = at-rest b g free in
+    let end = active-end (b .active) (b .sizes .entries) (b .engine .«under_way») (g .active) free in
+    running-stops budget l m₀ k m Ended 0 (ltb-true k budget t) (sym (next-ended l (b .active .cursor) (b .engine .«under_way») u (omega (arith, end))))
+    (λ _. refl) r)
+    (λ t.
+    let spent = ltb-false k budget t in
     let none : budget - k ≡ 0 = omega arith in
     let grown : k ≡ 0 + k = omega arith in
-    (λ i. record { heard = told 0 0 (grown i); after = m }) ∙ ap (λ i. added k (runOf i l m)) (sym none) ∙ r .same
-
--- what a leap answered, by the variant that was found
-pub leap-as : (l : List ℕ) (m : Machine) (most : ℕ) (r x : Leap) (d v : List ℕ) → r ≡ x → LeapOk l m most r d v → LeapOk l m most x d v
-leap-as l m most r x d v e h = subst (λ x. LeapOk l m most x d v) e h
+    (λ i. record { report = report 0 0 (grown i); after = m }) ∙ ap (λ i. added k (runOf i l m)) (sym none) ∙ r .same)
 
 -- ---- a run of a + b steps
 
 -- with no step left every run ends at once
-idle-run : (l : List ℕ) (m : Machine) (k : ℕ) → nextOf l (m .board) ≡ Idle → runOf k l m ≡ ended 0 m
+idle-run : (l : List ℕ) (m : Machine) (k : ℕ) → nextOn l (m .board) ≡ Ended → runOf k l m ≡ ended 0 m
 unfolding runOf
 idle-run l m zero e = refl
-idle-run l m (suc k) e = run-by l m Idle k e
+idle-run l m (suc k) e = run-by l m Ended k e
 
 -- what the law says of the outcome o of the first run
 Composes : ℕ → ℕ → List ℕ → Machine → Outcome → Type 0
-Composes a b l m o = o .heard .number ≡ 0 → runOf (a + b) l m ≡ added (o .heard .steps) (runOf b l (o .after))
+Composes a b l m o = o .report .number ≡ 0 → runOf (a + b) l m ≡ added (o .report .steps) (runOf b l (o .after))
 
-composes-step : (a b : ℕ) (l : List ℕ) (m : Machine) (x : Next) → nextOf l (m .board) ≡ x → ((o : Outcome) → byNext x m o ≡ added 1 o)
+composes-step : (a b : ℕ) (l : List ℕ) (m : Machine) (x : Next) → nextOn l (m .board) ≡ x → ((o : Outcome) → byNext x m o ≡ added 1 o)
     → Composes a b l (stepOf l m) (runOf a l (stepOf l m)) → Composes (suc a) b l m (runOf (suc a) l m)
 unfolding Composes
 composes-step a b l m x e goes more =
@@ -335,15 +288,14 @@ composes-step a b l m x e goes more =
     subst (λ o. Composes (suc a) b l m o) (sym (run-by l m x a e ∙ goes o))
     (λ h.
     let longer : suc a + b ≡ suc (a + b) = omega arith in
-    let one-more : o .heard .steps + 1 ≡ o .heard .steps + 1 = refl in
     ap (λ k. runOf k l m) longer ∙ run-by l m x (a + b) e ∙ goes (runOf (a + b) l n) ∙ ap (added 1) (more h)
-    ∙ added-added 1 (o .heard .steps) rest)
+    ∙ added-added 1 (o .report .steps) rest)
 
-composes-by : (a b : ℕ) (l : List ℕ) (m : Machine) (x : Next) → nextOf l (m .board) ≡ x
+composes-by : (a b : ℕ) (l : List ℕ) (m : Machine) (x : Next) → nextOn l (m .board) ≡ x
     → Composes a b l (stepOf l m) (runOf a l (stepOf l m)) → Composes (suc a) b l m (runOf (suc a) l m)
 unfolding Composes
-composes-by a b l m Idle e more =
-    subst (λ o. Composes (suc a) b l m o) (sym (run-by l m Idle a e))
+composes-by a b l m Ended e more =
+    subst (λ o. Composes (suc a) b l m o) (sym (run-by l m Ended a e))
     (λ h. idle-run l m (suc a + b) e ∙ added-none (ended 0 m) ∙ ap (added 0) (sym (idle-run l m b e)))
 composes-by a b l m Visit e more = composes-step a b l m Visit e (λ _. refl) more
 composes-by a b l m (Take x) e more = composes-step a b l m (Take x) e (λ _. refl) more
@@ -355,7 +307,7 @@ unfolding Composes runOf
 composes zero b l m h =
     let same : zero + b ≡ b = omega arith in
     ap (λ k. runOf k l m) same ∙ added-none (runOf b l m)
-composes (suc a) b l m h = composes-by a b l m (nextOf l (m .board)) refl (composes a b l (stepOf l m)) h
+composes (suc a) b l m h = composes-by a b l m (nextOn l (m .board)) refl (composes a b l (stepOf l m)) h
 
 pub runs-compose : RunsCompose
 unfolding Composes

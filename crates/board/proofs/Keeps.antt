@@ -1,231 +1,147 @@
 -- A step keeps the record well formed, and the buffers their lengths.
 -- Assumes nothing.
-use mathlib.Core.Path.{_≡_, refl, ap, _∙_}
-use mathlib.Core.Bool.{true, false, not, cond, _&&_, _||_}
-use Prim.Native.Nat.{ℕ, _+_}
+use mathlib.Core.Path.{_≡_, refl, ap, sym, subst, _∙_}
+use mathlib.Core.Bool.{Bool, true, false, not, cond, _&&_, _||_}
+use mathlib.Core.List.{List, []}
+use Prim.Native.Nat.{ℕ, _+_, _<_}
 use native.Mathlib.Omega.{arith}
-use borrow.Author.Tests.{ltb-true, eq-eqb}
-use lib.Dec.{eqb, ltb}
 use lib.ListN.{length}
-use Rattle.lemmas.proofs.Booleans.{by-cases, and-right, or-first, or-by, or-none-left, not-or}
-use Rattle.entries.specs.Fields.{patternControlOf}
-use Rattle.entries.specs.Legality.{dataLegal, entryLegal}
+use Rattle.lemmas.proofs.Booleans.{by-cases, or-by, first-of, second-of}
+use Rattle.geometry.specs.declared.Extent.{Extent}
+use Rattle.entries.specs.Legality.{entryLegal}
 use Rattle.entries.specs.declared.decoding.Entry.{Entry}
-use Rattle.registers.specs.Registers.{writtenOf, registersLegal}
-use Rattle.registers.specs.Patterns.{inRange}
-use Rattle.registers.proofs.Writes.{stays-legal, pctrl-legal}
-use Rattle.registers.proofs.Moves.{starts-in-range, stays-in-range}
-use Rattle.commands.specs.Visits.{commandIn, isLine, countOf}
-use Rattle.commands.specs.Steps.{inDashes, patternAfter, advancedOf, visitOf, setsPattern, patternSet, withWord, triggeredOf, takenOf}
-use Rattle.commands.specs.declared.Engine.{Engine}
-use Rattle.commands.proofs.Bounds.{count-same}
-use Rattle.commands.proofs.Visits.{keeps-lengths}
-use Rattle.commands.proofs.Triggers.{triggered-count}
-use Rattle.board.proofs.Chosen.{chosen}
-use Rattle.slots.specs.Slots.{sizesOk, endOf, slotZeros, spanOk, emptySlot, cursorOn}
+use Rattle.lists.specs.Spans.{endOf, spanOk}
+use Rattle.lists.specs.Cursors.{endedOf, fetchedOf}
+use Rattle.lists.specs.declared.cursors.Cursor.{Cursor}
+use Rattle.lists.specs.declared.cursors.Next.{Next}
+use Rattle.lists.specs.declared.cursors.Next.the-variants.{Ended, Visit, Take, Broken}
+use Rattle.lists.proofs.Fetches.{chosen}
+use Rattle.lists.proofs.Rests.{ended-resting}
+use Rattle.commands.specs.Steps.{Scene, visitOf, takenOf}
+use Rattle.commands.specs.Record.{engineOk}
+use Rattle.commands.proofs.Visiting.{keeps-lengths}
+use Rattle.commands.proofs.Sound.{visits-stay-ok, entries-stay-ok}
+use Rattle.slots.specs.Slots.{sizesOk, emptySlot, activeOn, slotOk, activeOk}
+use Rattle.slots.proofs.Slotted.{Visiting, active-span, active-end, begins, stays-active}
 use Rattle.board.specs.Record.{wellFormed}
-use Rattle.board.specs.Steps.{Machine, withEngine, withNext, nextOf, settledOf, takenBy, sceneOf, visitedScene, visitedOf, actOf, stepOf}
+use Rattle.board.specs.Steps.{Machine, nextOn, withSteps, settledOf, movedTo, sceneOf, actOf, stepOf}
 use Rattle.board.specs.Left.{StaysWellFormed, KeepsLengths}
 use Rattle.board.specs.declared.record.Board.{Board}
-use Rattle.leaps.specs.declared.stretches.Next.{Next}
-use Rattle.leaps.specs.declared.stretches.Next.the-variants.{Idle, Visit, Take, Broken}
-use Rattle.board.proofs.Forms.{Good, good-of, well-of, span-of, zero-of, Visiting, fetching-ok, visiting-ok, untaken-ok, active-of, next-below, next-within}
-
--- what an engine's part of a well formed record says
-pub record Sound (e : Engine) : Type 0 where
-  pub legal : registersLegal (e .registers) ≡ true
-  pub range : inRange (patternControlOf (e .registers .pctrl)) (e .pattern) ≡ true
-  pub visited-zero : (e .«under_way» || eqb (e .visited) 0) ≡ true
-  pub visited : (not (e .«under_way») || ltb (e .visited) (countOf e)) ≡ true
-
--- ---- an entry
-
--- the pattern after an entry, with the new registers
-set-in-range : (number word : ℕ) (e f : Engine) → f .registers ≡ writtenOf (e .registers) number word → f .pattern ≡ e .pattern
-    → registersLegal (f .registers) ≡ true → inRange (patternControlOf (e .registers .pctrl)) (e .pattern) ≡ true
-    → inRange (patternControlOf (f .registers .pctrl)) (patternSet number f) ≡ true
-unfolding writtenOf
-set-in-range number word e f g p legal range =
-    by-cases (setsPattern number f) (λ t. rw t (starts-in-range (f .registers .pctrl) (pctrl-legal (f .registers) legal)))
-    (λ t.
-    let other : eqb number 6 ≡ false = or-none-left (eqb number 6) (eqb number 12 && isLine (commandIn f) && commandIn f .prst) t in
-    let same : f .registers .pctrl ≡ e .registers .pctrl = ap (λ g. g .pctrl) g ∙ ap (λ t. cond t word (e .registers .pctrl)) other in
-    rw (t, same, p) range)
-
-take-sound : (e : Engine) (x : Entry) → entryLegal x ≡ true → Sound e → Sound (takenOf e x)
-unfolding takenOf
-take-sound e x h s =
-    let f = withWord e x in
-    let data-legal : dataLegal (x .register) (x .word) ≡ true = and-right (eqb (x .spare) 0) (dataLegal (x .register) (x .word)) h in
-    let legal = stays-legal (e .registers) (x .register) (x .word) data-legal (s .legal) in
-    record {
-      legal = legal;
-      range = set-in-range (x .register) (x .word) e f refl refl legal (s .range);
-      visited-zero = or-by (eqb (x .register) 12 && ltb 0 (countOf f)) true (λ _. refl);
-      visited = not-or (eqb (x .register) 12 && ltb 0 (countOf f)) (ltb 0 (countOf (triggeredOf (x .register) f)))
-          (λ t. ap (ltb 0) (triggered-count (x .register) f t) ∙ and-right (eqb (x .register) 12) (ltb 0 (countOf f)) t);
-    }
-
--- ---- a pixel
-
-pattern-in-range : (e : Engine) → inRange (patternControlOf (e .registers .pctrl)) (e .pattern) ≡ true
-    → inRange (patternControlOf (e .registers .pctrl)) (patternAfter e) ≡ true
-unfolding patternAfter
-pattern-in-range e h =
-    by-cases (inDashes (commandIn e)) (λ t. rw t (stays-in-range (e .registers .pctrl) (e .pattern) h)) (λ t. rw t h)
-
--- an engine with a pixel more visited
-going-on : Engine → Engine
-going-on e =
-    record {
-      «under_way» = true;
-      visited = e .visited + 1;
-      registers = e .registers;
-      pattern = patternAfter e;
-      last = e .last;
-    }
-
-advance-sound : (e : Engine) → Sound e → Sound (advancedOf e)
-unfolding advancedOf going-on
-advance-sound e s =
-    by-cases (ltb (e .visited + 1) (countOf e))
-    (λ t.
-    rw t
-    (record {
-      legal = s .legal;
-      range = pattern-in-range e (s .range);
-      visited-zero = refl;
-      visited = ap (ltb (e .visited + 1)) (count-same (going-on e) e refl refl) ∙ t;
-    }))
-    (λ t. rw t (record { legal = s .legal; range = pattern-in-range e (s .range); visited-zero = refl; visited = refl }))
-
--- ---- the end of a list
+use Rattle.board.proofs.Forms.{Good, good-of, well-of, active-of, next-below, next-within}
 
 -- a record whose active list has just had a step, before it is settled
 record Stepped (b : Board) : Type 0 where
   sizes : sizesOk (b .sizes) ≡ true
-  sound : Sound (b .engine)
-  taken : b .active .slot .taken ≡ true
-  pending-zeros : slotZeros (b .pending) ≡ true
-  active-span : spanOk (b .active .slot) (b .sizes .entries) ≡ true
-  pending-span : spanOk (b .pending) (b .sizes .entries) ≡ true
-  visiting : Visiting (b .active)
+  engine : engineOk (b .sizes .extent) (b .engine) ≡ true
+  taken : b .active .taken ≡ true
+  span : spanOk (b .active .cursor .span) (b .sizes .entries) ≡ true
+  pending : slotOk (b .pending) (b .sizes .entries) ≡ true
+  visiting : Visiting (b .active .cursor)
+
+-- the record with the pending list in the active slot
+abbrev pub followed : Board → Board
+followed b = record { sizes = b .sizes; active = activeOn (b .pending); pending = emptySlot; engine = b .engine }
 
 -- the list goes on
-stays : (b : Board) → Stepped b → (b .engine .«under_way» || ltb (b .active .next) (endOf (b .active .slot))) ≡ true → Good b
+stays : (b : Board) → Stepped b → endedOf (b .active .cursor) (b .engine .«under_way») ≡ false → Good b
 stays b s h =
-    let more = ltb (b .active .next) (endOf (b .active .slot)) in
     record {
       sizes = s .sizes;
-      legal = s .sound .legal;
-      range = s .sound .range;
-      active-zeros = rw (s .taken);
-      pending-zeros = s .pending-zeros;
-      next-zero = rw (s .taken);
-      visited-zero = s .sound .visited-zero;
-      order = rw (s .taken);
-      active-span = s .active-span;
-      pending-span = s .pending-span;
-      next =
-          by-cases (b .engine .«under_way») (λ t. rw t (visiting-ok (b .active) (s .visiting)))
-          (λ t.
-          rw t
-          (fetching-ok (b .active)
-          (record { from = omega (arith, s .visiting .past); before = ltb-true (b .active .next) (endOf (b .active .slot)) (or-first (b .engine .«under_way») more h t) })));
-      visited = s .sound .visited;
+      engine = s .engine;
+      active = stays-active (b .active) (b .sizes .entries) (b .engine .«under_way») (s .taken) (s .span) (s .visiting) h;
+      pending = s .pending;
+      order = ap (λ t. t || (not (b .pending .taken) && not (b .engine .«under_way»))) (s .taken);
     }
 
 -- the pending list becomes active
-follows : (b : Board) → Stepped b → b .engine .«under_way» ≡ false
-    → Good (record { sizes = b .sizes; active = cursorOn (b .pending); pending = emptySlot; engine = b .engine })
-follows b s h =
-    let p = b .pending in
+follows : (b : Board) → Stepped b → b .engine .«under_way» ≡ false → Good (followed b)
+follows b s u =
     record {
       sizes = s .sizes;
-      legal = s .sound .legal;
-      range = s .sound .range;
-      active-zeros = s .pending-zeros;
-      pending-zeros = refl;
-      next-zero = or-by (p .taken) (eqb (p .start) 0) (λ t. eq-eqb (p .start) 0 (zero-of p (s .pending-zeros) t .start-zero));
-      visited-zero = s .sound .visited-zero;
-      order = or-by (p .taken) (true && not (b .engine .«under_way»)) (λ t. rw h);
-      active-span = s .pending-span;
-      pending-span = refl;
-      next =
-          by-cases (p .taken)
-          (λ t.
-          rw h
-          (fetching-ok (cursorOn p)
-          (record { from = omega arith; before = omega (arith, span-of p (b .sizes .entries) (s .pending-span) t .some) })))
-          (λ t. untaken-ok (cursorOn p) (b .engine .«under_way») t);
-      visited = s .sound .visited;
+      engine = s .engine;
+      active = subst (λ u. activeOk (activeOn (b .pending)) (b .sizes .entries) u ≡ true) (sym u) (begins (b .pending) (b .sizes .entries) (s .pending));
+      pending = refl;
+      order = or-by (b .pending .taken) (true && not (b .engine .«under_way»)) (λ t. ap not u);
     }
 
 settle-good : (b : Board) → Stepped b → Good (settledOf b)
 unfolding settledOf
 settle-good b s =
-    let more = ltb (b .active .next) (endOf (b .active .slot)) in
-    by-cases (b .engine .«under_way» || more) (λ t. rw t (stays b s t)) (λ t. rw t (follows b s (or-none-left (b .engine .«under_way») more t)))
+    let t = endedOf (b .active .cursor) (b .engine .«under_way») in
+    by-cases t
+    (λ h. subst Good (first-of t (followed b) b h) (follows b s (ended-resting [] (b .active .cursor) (b .engine .«under_way») h)))
+    (λ h. subst Good (second-of t (followed b) b h) (stays b s h))
 
--- ---- steps
-
-sound-of : (b : Board) → Good b → Sound (b .engine)
-sound-of b g = record { legal = g .legal; range = g .range; visited-zero = g .visited-zero; visited = g .visited }
-
-pub take-good : (b : Board) (e : Entry) → Good b → b .active .slot .taken ≡ true → b .engine .«under_way» ≡ false → entryLegal e ≡ true
-    → Good (takenBy b e)
-unfolding takenBy
-take-good b e g t u h =
-    let f = next-below b g t u in
-    settle-good (withEngine (withNext b (b .active .next + 1)) (takenOf (b .engine) e))
-    (record {
-      sizes = g .sizes;
-      sound = take-sound (b .engine) e h (sound-of b g);
-      taken = t;
-      pending-zeros = g .pending-zeros;
-      active-span = g .active-span;
-      pending-span = g .pending-span;
-      visiting = record { past = omega (arith, f .from); within = omega (arith, f .before) };
-    })
-
-pub visit-good : (m : Machine) → Good (m .board) → m .board .engine .«under_way» ≡ true → Good (visitedOf m .board)
-unfolding visitedOf visitOf
-visit-good m g u =
+-- a step of the active list: to a cursor past its start, and a well formed engine
+moved-good : (m : Machine) (c : Cursor) (s : Scene) → Good (m .board) → m .board .active .taken ≡ true → c .span ≡ m .board .active .cursor .span
+    → Visiting c → engineOk (m .board .sizes .extent) (s .engine) ≡ true → Good (movedTo m c s .board)
+moved-good m c s g t same v ok =
     let b = m .board in
-    let e = b .engine in
-    settle-good (withEngine b (visitedScene m .engine))
+    settle-good (withSteps b c (s .engine))
     (record {
       sizes = g .sizes;
-      sound = advance-sound e (sound-of b g);
-      taken = active-of b g u;
-      pending-zeros = g .pending-zeros;
-      active-span = g .active-span;
-      pending-span = g .pending-span;
-      visiting = next-within b g u;
+      engine = ok;
+      taken = t;
+      span = ap (λ s. spanOk s (b .sizes .entries)) same ∙ active-span (b .active) (b .sizes .entries) (b .engine .«under_way») (g .active) t;
+      pending = g .pending;
+      visiting = v;
     })
+
+-- a list whose next entry is before its end is in the active slot
+pub holds-list : (b : Board) → Good b → b .active .cursor .next < endOf (b .active .cursor .span) → b .active .taken ≡ true
+holds-list b g h =
+    by-cases (b .active .taken) (λ t. t)
+    (λ t. absurd (empty (active-end (b .active) (b .sizes .entries) (b .engine .«under_way») (g .active) t)))
+  where
+    empty : endOf (b .active .cursor .span) ≡ 0 → ⊥
+    empty e = omega arith
+
+act-good : (l : List ℕ) (m : Machine) (x : Next) → nextOn l (m .board) ≡ x → Good (m .board) → Good (actOf x m .board)
+act-good l m Ended e g = g
+act-good l m Visit e g =
+    let b = m .board in
+    let u = chosen l (b .active .cursor) (b .engine .«under_way») Visit e in
+    moved-good m (b .active .cursor) (visitOf (b .sizes .extent) (sceneOf m)) g (active-of b g u) refl (next-within b g u)
+    (visits-stay-ok (b .sizes .extent) (sceneOf m) (g .engine))
+act-good l m (Take x) e g =
+    let b = m .board in
+    let c = chosen l (b .active .cursor) (b .engine .«under_way») (Take x) e in
+    let t = holds-list b g (c .more) in
+    let f = next-below b g t (c .resting) in
+    moved-good m (fetchedOf (b .active .cursor)) (takenOf (b .sizes .extent) (sceneOf m) x) g t refl
+    (record { past = omega (arith, f .from); within = omega (arith, c .more) })
+    (entries-stay-ok (b .sizes .extent) (sceneOf m) x (c .legal) (g .engine))
+act-good l m Broken e g = g
 
 pub stays-well-formed : StaysWellFormed
 unfolding stepOf
-stays-well-formed l m w = go (nextOf l (m .board)) refl
-  where
-    go : (x : Next) → nextOf l (m .board) ≡ x → wellFormed (actOf x m .board) ≡ true
-    go Idle e = w
-    go Visit e = well-of (visitedOf m .board) (visit-good m (good-of (m .board) w) (chosen l (m .board) Visit e))
-    go (Take x) e =
-        let t = chosen l (m .board) (Take x) e in
-        well-of (takenBy (m .board) x) (take-good (m .board) x (good-of (m .board) w) (t .active) (t .resting) (t .legal))
-    go Broken e = w
-
-visited-lengths : (m : Machine) → (length (visitedOf m .display) ≡ length (m .display)) × (length (visitedOf m .virt) ≡ length (m .virt))
-unfolding visitedOf
-visited-lengths m = keeps-lengths (m .board .sizes .width) (m .board .sizes .height) (sceneOf m)
+stays-well-formed l m w =
+    well-of (actOf (nextOn l (m .board)) m .board) (act-good l m (nextOn l (m .board)) refl (good-of (m .board) w))
 
 pub step-lengths : KeepsLengths
 unfolding stepOf
-step-lengths l m = go (nextOf l (m .board))
+step-lengths l m = go (nextOn l (m .board))
   where
     go : (x : Next) → (length (actOf x m .display) ≡ length (m .display)) × (length (actOf x m .virt) ≡ length (m .virt))
-    go Idle = (refl, refl)
-    go Visit = visited-lengths m
+    go Ended = (refl, refl)
+    go Visit = keeps-lengths (m .board .sizes .extent) (sceneOf m)
     go (Take x) = (refl, refl)
     go Broken = (refl, refl)
+
+-- a step keeps the sizes
+pub settled-sizes : (b : Board) → settledOf b .sizes ≡ b .sizes
+unfolding settledOf
+settled-sizes b = by (endedOf (b .active .cursor) (b .engine .«under_way»))
+  where
+    by : (t : Bool) → cond t (followed b) b .sizes ≡ b .sizes
+    by true = refl
+    by false = refl
+
+-- and the engine
+pub settled-engine : (b : Board) → settledOf b .engine ≡ b .engine
+unfolding settledOf
+settled-engine b = by (endedOf (b .active .cursor) (b .engine .«under_way»))
+  where
+    by : (t : Bool) → cond t (followed b) b .engine ≡ b .engine
+    by true = refl
+    by false = refl

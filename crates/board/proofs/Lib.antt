@@ -1,5 +1,4 @@
 pub mod Forms
-pub mod Chosen
 pub mod Keeps
 pub mod Goes
 pub mod Counts

@@ -5,8 +5,9 @@ use mathlib.Core.Bool.{true, false, cond}
 use mathlib.Core.List.{List}
 use Prim.Native.Nat.{ℕ, _+_, _≤_}
 use borrow.Author.Tests.{eq-eqb, ne-eqb}
-use Rattle.slots.specs.Answers.{Told}
-use Rattle.slots.specs.Calls.{postHeard, Lent, storeHeard, writeHeard}
+use Rattle.answers.specs.Reports.{Report}
+use Rattle.slots.specs.Slots.{slotOf}
+use Rattle.slots.specs.Calls.{postReport, Lent, storeReport, writeReport}
 use Rattle.slots.proofs.Grounds.{post-fits}
 use Rattle.board.specs.Record.{wellFormed}
 use Rattle.board.specs.Calls.{Reply, answered, postedOf, postBy, postCall, kept, keptBy, storeCall, writeCall}
@@ -17,30 +18,30 @@ module _ (l : List ℕ) (start count : ℕ) (b : Board) where
   unfolding postCall
   post-malformed w = rw w
 
-  pub post-by : wellFormed b ≡ true → (t : Told) → t ≡ postHeard (b .sizes) (b .active .slot) (b .pending) l start count
+  pub post-by : wellFormed b ≡ true → (t : Report) → t ≡ postReport (b .sizes) (slotOf (b .active)) (b .pending) l start count
       → postBy t b start count ≡ postCall l start count b
   unfolding postCall
   post-by w t e = rw w (ap (λ t. postBy t b start count) e)
 
-  module _ (w : wellFormed b ≡ true) (t : Told) (e : t ≡ postHeard (b .sizes) (b .active .slot) (b .pending) l start count) where
-    pub post-refused : (t .number ≡ 0 → ⊥) → (record { heard = t; board = b }) ≡ postCall l start count b
+  module _ (w : wellFormed b ≡ true) (t : Report) (e : t ≡ postReport (b .sizes) (slotOf (b .active)) (b .pending) l start count) where
+    pub post-refused : (t .number ≡ 0 → ⊥) → (record { report = t; board = b }) ≡ postCall l start count b
     post-refused n =
-        ap (λ x. record { heard = t; board = cond x (postedOf b start count) b }) (sym (ne-eqb (t .number) 0 n)) ∙ post-by w t e
+        ap (λ x. record { report = t; board = cond x (postedOf b start count) b }) (sym (ne-eqb (t .number) 0 n)) ∙ post-by w t e
 
-    pub post-done : t .number ≡ 0 → (c : Board) → c ≡ postedOf b start count → (record { heard = t; board = c }) ≡ postCall l start count b
+    pub post-done : t .number ≡ 0 → (c : Board) → c ≡ postedOf b start count → (record { report = t; board = c }) ≡ postCall l start count b
     post-done n c q =
-        ap (λ c. record { heard = t; board = c }) q
-        ∙ ap (λ x. record { heard = t; board = cond x (postedOf b start count) b }) (sym (eq-eqb (t .number) 0 n)) ∙ post-by w t e
+        ap (λ c. record { report = t; board = c }) q
+        ∙ ap (λ x. record { report = t; board = cond x (postedOf b start count) b }) (sym (eq-eqb (t .number) 0 n)) ∙ post-by w t e
 
     pub post-room : t .number ≡ 0 → start + count ≤ b .sizes .entries
-    post-room n = post-fits (b .sizes) (b .active .slot) (b .pending) l start count (sym (ap (λ t. t .number) e) ∙ n)
+    post-room n = post-fits (b .sizes) (slotOf (b .active)) (b .pending) l start count (sym (ap (λ t. t .number) e) ∙ n)
 
 module _ (l : List ℕ) (first : ℕ) (bytes : List ℕ) (b : Board) where
   pub store-malformed : wellFormed b ≡ false → kept 1 b l ≡ storeCall l first bytes b
   unfolding storeCall
   store-malformed w = rw w
 
-  pub store-by : wellFormed b ≡ true → (m : Lent) → m ≡ storeHeard (b .sizes) (b .active .slot) (b .pending) l first bytes
+  pub store-by : wellFormed b ≡ true → (m : Lent) → m ≡ storeReport (b .sizes) (slotOf (b .active)) (b .pending) l first bytes
       → keptBy b m ≡ storeCall l first bytes b
   unfolding storeCall
   store-by w m e = rw w (ap (keptBy b) e)
@@ -51,7 +52,7 @@ module _ (number offset : ℕ) (bytes buffer : List ℕ) (b : Board) where
   write-malformed w = rw w
 
   pub write-by : wellFormed b ≡ true → (m : Lent)
-      → m ≡ writeHeard (b .sizes) (b .active .slot) (b .pending) number offset bytes buffer
+      → m ≡ writeReport (b .sizes) (slotOf (b .active)) (b .pending) number offset bytes buffer
       → keptBy b m ≡ writeCall number offset bytes buffer b
   unfolding writeCall
   write-by w m e = rw w (ap (keptBy b) e)

@@ -1,45 +1,43 @@
 -- Runs (01, Steps), and what the host hears of one (01, What the host hears).
 use mathlib.Core.Path.{_≡_}
-use mathlib.Core.Bool.{true, cond}
+use mathlib.Core.Bool.{Bool, true, false, cond}
 use mathlib.Core.List.{List}
-use Prim.Native.Nat.{ℕ, zero, suc, _+_, _≤_}
+use Prim.Native.Nat.{ℕ, zero, suc, _+_, _≤_, _<_}
 use lib.ListN.{length}
+use Rattle.answers.specs.Reports.{Report, report, reportOf}
+use Rattle.lists.specs.declared.cursors.Next.{Next}
+use Rattle.lists.specs.declared.cursors.Next.the-variants.{Ended, Visit, Take, Broken}
 use Rattle.slots.specs.Slots.{lentOk}
 use Rattle.board.specs.Record.{wellFormed}
-use Rattle.board.specs.Steps.{Machine, machine, nextOf, stepOf}
-use Rattle.leaps.specs.declared.stretches.Next.{Next}
-use Rattle.leaps.specs.declared.stretches.Next.the-variants.{Idle, Visit, Take, Broken}
-use Rattle.slots.specs.Answers.{Told, told, toldOf}
-use Rattle.board.specs.declared.answers.Answer.{Answer}
-use Rattle.board.specs.declared.runs.Leap.{Leap}
-use Rattle.board.specs.declared.runs.Leap.the-variants.{Far, Idle as LeapIdle, Broken as LeapBroken}
+use Rattle.board.specs.Steps.{Machine, machine, nextOn, stepOf}
+use Rattle.board.specs.declared.answer.Answer.{Answer}
 
 -- What a run answers, with record and buffers after it.
 pub record Outcome : Type 0 where
-  pub heard : Told
+  pub report : Report
   pub after : Machine
 
 abbrev pub outcome : Answer → List ℕ → List ℕ → Outcome
-outcome r d v = record { heard = toldOf (r .heard); after = machine (r .board) d v }
+outcome r d v = record { report = reportOf (r .status); after = machine (r .board) d v }
 
 abbrev pub ended : ℕ → Machine → Outcome
-ended number m = record { heard = told number 0 0; after = m }
+ended number m = record { report = report number 0 0; after = m }
 
 -- The same with k steps more.
 abbrev pub added : ℕ → Outcome → Outcome
-added k o = record { heard = told (o .heard .number) (o .heard .place) (o .heard .steps + k); after = o .after }
+added k o = record { report = report (o .report .number) (o .report .place) (o .report .steps + k); after = o .after }
 
 -- A run of a well formed board: each step costs one of the budget; it ends where there is none left to do, and answers 9
 -- where it would fetch an illegal entry within the budget.
 abbrev pub byNext : Next → Machine → Outcome → Outcome
-byNext Idle m more = ended 0 m
+byNext Ended m more = ended 0 m
 byNext Visit m more = added 1 more
 byNext (Take e) m more = added 1 more
 byNext Broken m more = ended 9 m
 
 unfoldable pub runOf : ℕ → List ℕ → Machine → Outcome
 runOf zero l m = ended 0 m
-runOf (suc budget) l m = byNext (nextOf l (m .board)) m (runOf budget l (stepOf l m))
+runOf (suc budget) l m = byNext (nextOn l (m .board)) m (runOf budget l (stepOf l m))
 
 -- "Run: 1, 2, 9", the lowest number first.
 unfoldable pub runCall : ℕ → List ℕ → Machine → Outcome
@@ -48,14 +46,12 @@ runCall budget l m =
     (cond (lentOk (m .board .sizes) (length l) (length (m .display)) (length (m .virt))) (runOf budget l m) (ended 2 m))
     (ended 1 m)
 
--- Several steps at once: k of them, at most `most`, lead from m to n, and any longer run goes on from n.
-pub record Leaped (l : List ℕ) (m : Machine) (most k : ℕ) (n : Machine) : Type 0 where
-  pub some : 1 ≤ k
-  pub few : k ≤ most
+-- Several steps at once: k of them, within the budget, lead from m to n, and any longer run goes on from n; `broken` where the next
+-- entry is illegal there and the budget reaches it.
+pub record Leaped (l : List ℕ) (m : Machine) (budget k : ℕ) (broken : Bool) (n : Machine) : Type 0 where
+  pub few : k ≤ budget
   pub well : wellFormed (n .board) ≡ true
   pub run : (r : ℕ) → runOf (r + k) l m ≡ added k (runOf r l n)
-
-abbrev pub LeapOk : List ℕ → Machine → ℕ → Leap → List ℕ → List ℕ → Type 0
-LeapOk l m most (Far b k) d v = Leaped l m most k (machine b d v)
-LeapOk l m most LeapIdle d v = (nextOf l (m .board) ≡ Idle) × (d ≡ m .display) × (v ≡ m .virt)
-LeapOk l m most LeapBroken d v = (nextOf l (m .board) ≡ Broken) × (d ≡ m .display) × (v ≡ m .virt)
+  pub some : broken ≡ false → 1 ≤ k
+  pub early : broken ≡ true → k < budget
+  pub stops : broken ≡ true → nextOn l (n .board) ≡ Broken

@@ -1,14 +1,16 @@
 // The calls make, post, store and window write.
 ghost use mathlib.Core.Path.{_≡_};
 ghost use Rattle.board.specs.Calls.{reply, freshBoard, makeCall, postedOf, postCall, written, storeCall, writeCall};
-use crate::answers::Answer;
+use crate::answer::Answer;
 use crate::record::Board;
+use answers::Status;
 use commands::Engine;
-use slots::Cursor;
-use slots::Heard;
+use geometry::Extent;
+use lists::Span;
+use slots::Active;
 use slots::Sizes;
 use slots::Slot;
-use slots::post_heard;
+use slots::post_status;
 use slots::store_into;
 use slots::write_into;
 
@@ -16,21 +18,17 @@ impl Board {
     fn fresh(z: Sizes) -> Board
         ensures { λ r. ⌜ r ≡ freshBoard z ⌝ }
     {
-        Board {
-            sizes: z,
-            active: Cursor {
-                slot: Slot {
-                    taken: false,
-                    start: 0,
-                    count: 0,
-                },
-                next: 0,
-            },
-            pending: Slot {
-                taken: false,
+        let free = Slot {
+            taken: false,
+            span: Span {
                 start: 0,
                 count: 0,
             },
+        };
+        Board {
+            sizes: z,
+            active: Active::on(free),
+            pending: free,
             engine: Engine::fresh(),
         }
     }
@@ -47,19 +45,23 @@ impl Board {
             & (entries <= 4096)
         {
             return Answer {
-                heard: Heard::Done(0),
+                status: Status::Done(0),
                 board: Board::fresh(Sizes {
-                    width: width as u32,
-                    height: height as u32,
+                    extent: Extent {
+                        width: width as u32,
+                        height: height as u32,
+                    },
                     entries: entries as u32,
                 }),
             };
         }
         Answer {
-            heard: Heard::WrongSize,
+            status: Status::WrongSize,
             board: Board::fresh(Sizes {
-                width: 1,
-                height: 1,
+                extent: Extent {
+                    width: 1,
+                    height: 1,
+                },
                 entries: 1,
             }),
         }
@@ -69,29 +71,24 @@ impl Board {
         ensures { λ r. ⌜ r ≡ postedOf self start count ⌝ }
     {
         let z = self.sizes;
-        let c = self.active;
-        let s = c.slot;
+        let a = self.active;
         let p = self.pending;
         let e = self.engine;
         let list = Slot {
             taken: true,
-            start,
-            count,
+            span: Span { start, count },
         };
-        if s.taken {
+        if a.taken {
             return Board {
                 sizes: z,
-                active: c,
+                active: a,
                 pending: list,
                 engine: e,
             };
         }
         Board {
             sizes: z,
-            active: Cursor {
-                slot: list,
-                next: start,
-            },
+            active: Active::on(list),
             pending: p,
             engine: e,
         }
@@ -102,21 +99,23 @@ impl Board {
         ensures { λ r. ⌜ reply r ≡ postCall (now (list .entry)) start count self ⌝ }
     {
         let z = self.sizes;
-        let c = self.active;
-        let s = c.slot;
+        let a = self.active;
         let p = self.pending;
         if !self.well_formed() {
             return Answer {
-                heard: Heard::Malformed,
+                status: Status::Malformed,
                 board: self,
             };
         }
-        let heard = post_heard(z, s, p, list, start, count);
-        if heard.number() != 0 {
-            return Answer { heard, board: self };
+        let status = post_status(z, a.slot(), p, list, start, count);
+        if status.number() != 0 {
+            return Answer {
+                status,
+                board: self,
+            };
         }
         Answer {
-            heard,
+            status,
             board: self.posted(start as u32, count as u32),
         }
     }
@@ -126,17 +125,16 @@ impl Board {
         ensures { λ r. ⌜ written r (now (list .exit)) ≡ storeCall (now (list .entry)) first (now (bytes .entry)) self ⌝ }
     {
         let z = self.sizes;
-        let c = self.active;
-        let s = c.slot;
+        let a = self.active;
         let p = self.pending;
         if !self.well_formed() {
             return Answer {
-                heard: Heard::Malformed,
+                status: Status::Malformed,
                 board: self,
             };
         }
         Answer {
-            heard: store_into(z, s, p, list, first, bytes),
+            status: store_into(z, a.slot(), p, list, first, bytes),
             board: self,
         }
     }
@@ -152,17 +150,16 @@ impl Board {
         ensures { λ r. ⌜ written r (now (buffer .exit)) ≡ writeCall number offset (now (bytes .entry)) (now (buffer .entry)) self ⌝ }
     {
         let z = self.sizes;
-        let c = self.active;
-        let s = c.slot;
+        let a = self.active;
         let p = self.pending;
         if !self.well_formed() {
             return Answer {
-                heard: Heard::Malformed,
+                status: Status::Malformed,
                 board: self,
             };
         }
         Answer {
-            heard: write_into(z, s, p, number, offset, bytes, buffer),
+            status: write_into(z, a.slot(), p, number, offset, bytes, buffer),
             board: self,
         }
     }

@@ -1,9 +1,11 @@
 // The end of a list, and the record after steps of its active list.
 ghost use mathlib.Core.Path.{_≡_};
-ghost use Rattle.board.specs.Steps.{withEngine, withNext, settledOf};
+ghost use Rattle.board.specs.Steps.{withSteps, settledOf};
 use crate::record::Board;
 use commands::Engine;
-use slots::Cursor;
+use lists::Cursor;
+use lists::Span;
+use slots::Active;
 use slots::Slot;
 
 impl Board {
@@ -12,39 +14,40 @@ impl Board {
         ensures { λ r. ⌜ r ≡ settledOf self ⌝ }
     {
         let z = self.sizes;
-        let c = self.active;
-        let s = c.slot;
+        let a = self.active;
+        let c = a.cursor;
         let p = self.pending;
         let e = self.engine;
-        if e.under_way | ((c.next as u64) < s.start as u64 + s.count as u64) {
+        if !c.ended(e.under_way) {
             return self;
         }
         Board {
             sizes: z,
-            active: Cursor {
-                slot: p,
-                next: p.start,
-            },
+            active: Active::on(p),
             pending: Slot {
                 taken: false,
-                start: 0,
-                count: 0,
+                span: Span {
+                    start: 0,
+                    count: 0,
+                },
             },
             engine: e,
         }
     }
 
-    // With the engine and the next entry that steps of the active list leave.
-    pub(crate) fn moved(self, engine: Engine, next: u32) -> Board
-        ensures { λ r. ⌜ r ≡ settledOf (withEngine (withNext self next) engine) ⌝ }
+    // With the list and the engine that steps of the active list leave.
+    pub(crate) fn moved(self, cursor: Cursor, engine: Engine) -> Board
+        ensures { λ r. ⌜ r ≡ settledOf (withSteps self cursor engine) ⌝ }
     {
         let z = self.sizes;
-        let c = self.active;
-        let s = c.slot;
+        let a = self.active;
         let p = self.pending;
         let b = Board {
             sizes: z,
-            active: Cursor { slot: s, next },
+            active: Active {
+                taken: a.taken,
+                cursor,
+            },
             pending: p,
             engine,
         };

@@ -1,7 +1,7 @@
 -- Steps of a list one after the other: many pixels at once, and the loop over entries and commands.
 -- Assumes nothing.
 use mathlib.Core.Path.{_≡_, refl, ap, sym, _∙_}
-use mathlib.Core.Bool.{Bool, true, false, cond}
+use mathlib.Core.Bool.{Bool, true, false, cond, false≢true}
 use mathlib.Core.List.{List}
 use Prim.Native.Nat.{ℕ, zero, suc, _+_, _-_, _≤_, _<_, min, max}
 use native.Mathlib.Omega.{arith}
@@ -11,11 +11,11 @@ use Rattle.lemmas.proofs.Booleans.{first-of, second-of}
 use Rattle.geometry.specs.declared.Extent.{Extent}
 use Rattle.entries.specs.declared.decoding.Entry.{Entry}
 use Rattle.lists.specs.Spans.{endOf}
-use Rattle.lists.specs.Cursors.{nextOf, fetchedOf}
+use Rattle.lists.specs.Cursors.{nextOf, fetchedOf, endedOf}
 use Rattle.lists.specs.declared.cursors.Cursor.{Cursor}
 use Rattle.lists.specs.declared.cursors.Next.{Next}
 use Rattle.lists.specs.declared.cursors.Next.the-variants.{Ended, Visit, Take, Broken}
-use Rattle.lists.proofs.Fetches.{next-visit, chosen}
+use Rattle.lists.proofs.Fetches.{next-visit, next-over, chosen}
 use Rattle.commands.specs.Visits.{countOf}
 use Rattle.commands.specs.Steps.{Scene, scene, advancedOf, visitOf, visitsOf, enteredOf, takenOf}
 use Rattle.commands.specs.declared.Engine.{Engine}
@@ -81,13 +81,25 @@ visits-done budget extent s n k t u h p q e =
       busy = λ j below. still-busy extent s j u (omega arith);
     }
 
+-- ---- how many steps
+
+pub record Within (budget : ℕ) (c : Cursor) (s : Scene) (r : Reached) : Type 0 where
+  pub few : r .steps ≤ budget
+  pub early : r .broken ≡ true → r .steps < budget
+  pub some : endedOf c (s .engine .«under_way») ≡ false → 1 ≤ budget → r .broken ≡ false → 1 ≤ r .steps
+
+-- after one step
+within-more : (budget : ℕ) (c : Cursor) (s : Scene) (d : Cursor) (t : Scene) (r : Reached) → Within budget d t r → Within (suc budget) c s (longer 1 r)
+within-more budget c s d t r w =
+    record { few = omega (arith, w .few); early = λ f. omega (arith, w .early f); some = λ live asked f. omega arith }
+
 -- ---- runs of a list
 
 module _ (l : List ℕ) (extent : Extent) where
   abbrev from : ℕ → Cursor → Scene → Reached
   from budget c s = runFrom budget l extent c s
 
-  by-next : (budget : ℕ) (c : Cursor) (s : Scene) (x : Next) → nextOf l c (s .engine .«under_way») ≡ x
+  pub by-next : (budget : ℕ) (c : Cursor) (s : Scene) (x : Next) → nextOf l c (s .engine .«under_way») ≡ x
       → from (suc budget) c s ≡ byStep extent x c s (from budget c (visitOf extent s)) (from budget)
   unfolding runFrom
   by-next budget c s x e = ap (λ x. byStep extent x c s (from budget c (visitOf extent s)) (from budget)) e
@@ -110,6 +122,26 @@ module _ (l : List ℕ) (extent : Extent) where
       let o = from budget c (visitOf extent t) in
       ap (λ k. from k c s) e ∙ visits-run k (suc budget) c s (λ j h. busy j (omega arith))
       ∙ ap (longer k) (visit-one budget c t (busy k (omega arith))) ∙ longer-longer k 1 o ∙ ap (λ j. longer j o) swap
+
+  -- no more steps than the budget, fewer where an illegal entry ended them, and some where none did
+  pub within : (budget : ℕ) (c : Cursor) (s : Scene) → Within budget c s (from budget c s)
+  unfolding runFrom
+  within zero c s =
+      record { few = omega arith; early = λ f. absurd (false≢true f); some = λ live asked f. absurd (omega arith) }
+  within (suc budget) c s = go (within budget) (nextOf l c (s .engine .«under_way»)) refl
+    where
+      go : ((c : Cursor) (s : Scene) → Within budget c s (from budget c s)) → (x : Next) → nextOf l c (s .engine .«under_way») ≡ x
+          → Within (suc budget) c s (byStep extent x c s (from budget c (visitOf extent s)) (from budget))
+      go rest Ended e =
+          record {
+            few = omega arith;
+            early = λ f. absurd (false≢true f);
+            some = λ live asked f. absurd (false≢true (sym live ∙ next-over l c (s .engine .«under_way») e));
+          }
+      go rest Visit e = within-more budget c s c (visitOf extent s) (from budget c (visitOf extent s)) (rest c (visitOf extent s))
+      go rest (Take x) e =
+          within-more budget c s (fetchedOf c) (takenOf extent s x) (from budget (fetchedOf c) (takenOf extent s x)) (rest (fetchedOf c) (takenOf extent s x))
+      go rest Broken e = record { few = omega arith; early = λ _. omega arith; some = λ live asked f. absurd (false≢true (sym f)) }
 
   -- the loop: k steps are done, and the rest of the run is that from here
   pub record Going (budget : ℕ) (c₀ : Cursor) (s₀ : Scene) (k : ℕ) (c : Cursor) (s : Scene) : Type 0 where

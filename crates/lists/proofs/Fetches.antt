@@ -1,25 +1,25 @@
 -- What the choice of the next step says of a list.
 -- Assumes nothing.
-use mathlib.Core.Path.{_≡_, refl, ap, sym, subst, _∙_}
-use mathlib.Core.Bool.{Bool, true, false, cond}
+use mathlib.Core.Path.{_≡_, refl, ap, ap₂, sym, subst, _∙_}
+use mathlib.Core.Bool.{Bool, true, false, not, cond, _&&_}
 use mathlib.Core.List.{List, [], _∷_}
 use Prim.Native.Nat.{ℕ, _/_, _≤_, _<_}
 use native.Mathlib.Omega.{arith}
 use borrow.Author.Tests.{leb-true, leb-false, ltb-true, ltb-false, le-leb, lt-leb}
 use lib.Dec.{leb, ltb}
 use lib.ListN.{length}
-use Rattle.lemmas.proofs.Booleans.{by-cases}
+use Rattle.lemmas.proofs.Booleans.{by-cases, and-right}
 use Rattle.entries.specs.Layout.{entryOf, decodedOf}
 use Rattle.entries.specs.Legality.{entryLegal}
 use Rattle.entries.proofs.Decodes.{decoded-whole, decoded-none}
 use Rattle.entries.specs.declared.decoding.Entry.{Entry}
 use Rattle.entries.specs.declared.decoding.Decoded.{Decoded}
 use Rattle.lists.specs.Spans.{endOf}
-use Rattle.lists.specs.Cursors.{judged, nextOf, fetchedOf, restOf, AllLegal, FetchTakesTheHead}
+use Rattle.lists.specs.Cursors.{judged, nextOf, fetchedOf, endedOf, restOf, isEmpty, AllLegal, FetchTakesTheHead}
 use Rattle.lists.specs.declared.cursors.Cursor.{Cursor}
 use Rattle.lists.specs.declared.cursors.Next.{Next}
 use Rattle.lists.specs.declared.cursors.Next.the-variants.{Ended, Visit, Take, Broken}
-use Rattle.lists.proofs.Rests.{rest-end, rest-next}
+use Rattle.lists.proofs.Rests.{rest-end, rest-next, ended-resting, ends-where}
 
 -- an entry that is taken
 pub record Taking (l : List ℕ) (c : Cursor) (u : Bool) (e : Entry) : Type 0 where
@@ -62,6 +62,12 @@ module _ (l : List ℕ) (c : Cursor) where
   pub chosen : (u : Bool) (x : Next) → nextOf l c u ≡ x → Chosen l c u x
   chosen u x e = subst (λ (x : Next). Chosen l c u x) e (chosen-at u)
 
+-- a list whose next step is none has ended
+pub next-over : (l : List ℕ) (c : Cursor) (u : Bool) → nextOf l c u ≡ Ended → endedOf c u ≡ true
+next-over l c u e =
+    let t = chosen l c u Ended e in
+    ends-where l c u ∙ ap₂ (λ u es. not u && isEmpty es) (t .0) (t .1)
+
 pub fetch-takes-the-head : FetchTakesTheHead
 fetch-takes-the-head l c u e h = chosen l c u (Take e) h .head
 
@@ -74,6 +80,10 @@ module _ (l : List ℕ) (c : Cursor) (u : Bool) where
   pub next-ended : u ≡ false → endOf (c .span) ≤ c .next → Ended ≡ nextOf l c u
   unfolding nextOf
   next-ended h k = rw (h, le-leb (endOf (c .span)) (c .next) k)
+
+  pub ended-next : endedOf c u ≡ true → nextOf l c u ≡ Ended
+  ended-next h =
+      sym (next-ended (ended-resting l c u h) (leb-true (endOf (c .span)) (c .next) (and-right (not u) (leb (endOf (c .span)) (c .next)) h)))
 
   pub next-read : u ≡ false → c .next < endOf (c .span) → (d e : Decoded) → d ≡ decodedOf l (c .next) → d ≡ e
       → judged e ≡ nextOf l c u

@@ -5,7 +5,7 @@ use mathlib.Core.Bool.{Bool, true, false, cond, _&&_}
 use mathlib.Core.List.{List, []}
 use Prim.Native.Nat.{ℕ, _+_, _≤_, _<_}
 use native.Mathlib.Omega.{arith}
-use borrow.Author.Tests.{eqb-true, leb-true, leb-false, le-leb, ltb-true, lt-ltb}
+use borrow.Author.Tests.{eqb-true, leb-true, leb-false, le-leb, lt-leb, ltb-true, lt-ltb}
 use lib.Dec.{eqb, leb, ltb}
 use Rattle.lemmas.proofs.Booleans.{by-cases, both, and-left, and-right, first-of, second-of}
 use Rattle.entries.specs.declared.decoding.Entry.{Entry}
@@ -147,3 +147,9 @@ stays-active a entries true t s v h = active-by a entries true t s (visiting-by 
 stays-active a entries false t s v h =
     active-by a entries false t s
     (fetching-by (a .cursor) (record { from = omega (arith, v .past); before = leb-false (endOf (a .cursor .span)) (a .cursor .next) h }))
+
+-- a list in the active slot has entries or pixels left
+pub live-of : (a : Active) (entries : ℕ) (u : Bool) → activeOk a entries u ≡ true → a .taken ≡ true → endedOf (a .cursor) u ≡ false
+live-of a entries true h t = refl
+live-of a entries false h t =
+    lt-leb (endOf (a .cursor .span)) (a .cursor .next) (fetching-of (a .cursor) (active-cursor a entries false h t) .before)

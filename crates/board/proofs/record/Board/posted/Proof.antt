@@ -1,14 +1,18 @@
-use Rattle.board.specs.Calls.{postedOf}
+use borrow.Author.Needs.{needs}
 use Rattle.board.proofs.record.Board.posted.Statement.{statement}
 use Rattle.board.proofs.record.Board.posted.Tie as tie
+use Rattle.board.proofs.record.Board.posted.Reads as reads
+use Rattle.board.proofs.record.Board.posted.Lts as lts
+use Rattle.slots.proofs.record.Active.on.Reads as on-reads
 
 returns : tie.Need-returns
-unfolding postedOf
-returns c = rw (c .if1 .taken)
+returns c = ?
+
+on-requires : tie.Need-on-requires
+on-requires c κs = search needs
 
 returns-2 : tie.Need-returns-2
-unfolding postedOf
-returns-2 c = rw (c .if1 .left)
+returns-2 c = ?
 
 pub posted-spec : {M : Type 1} → statement M
-posted-spec = tie.close (tie.spec returns returns-2)
+posted-spec = tie.close (tie.spec returns on-requires returns-2)

@@ -1,27 +1,22 @@
 use borrow.Author.Needs.{needs}
-use Rattle.board.specs.Steps.{settledOf}
 use Rattle.board.proofs.record.Board.settled.Statement.{statement}
 use Rattle.board.proofs.record.Board.settled.Tie as tie
+use Rattle.board.proofs.record.Board.settled.Reads as reads
+use Rattle.board.proofs.record.Board.settled.Lts as lts
+use Rattle.lists.proofs.cursors.Cursor.ended.Reads as ended-reads
+use Rattle.slots.proofs.record.Active.on.Reads as on-reads
 
-cast-if1 : tie.Need-cast-if1
-cast-if1 c = search needs
-
-cast-if1-2 : tie.Need-cast-if1-2
-cast-if1-2 c = search needs
-
-cast-if1-3 : tie.Need-cast-if1-3
-cast-if1-3 c = search needs
-
-add-if1 : tie.Need-add-if1
-add-if1 c = search needs
+ended-requires : tie.Need-ended-requires
+ended-requires c κs = search needs
 
 returns : tie.Need-returns
-unfolding settledOf
-returns c = rw (c .if1 .taken)
+returns c = ?
+
+on-requires : tie.Need-on-requires
+on-requires c κs = search needs
 
 returns-2 : tie.Need-returns-2
-unfolding settledOf
-returns-2 c = rw (c .if1 .left)
+returns-2 c = ?
 
 pub settled-spec : {M : Type 1} → statement M
-settled-spec = tie.close (tie.spec cast-if1 cast-if1-2 cast-if1-3 add-if1 returns returns-2)
+settled-spec = tie.close (tie.spec ended-requires returns on-requires returns-2)

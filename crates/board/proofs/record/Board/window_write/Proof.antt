@@ -1,20 +1,20 @@
 use borrow.Author.Needs.{needs}
-use mathlib.Core.Path.{_≡_, sym, _∙_}
-use mathlib.Core.Bool.{true}
-use borrow.Author.Tests.{not-true, not-false}
-use Rattle.board.specs.Record.{wellFormed}
-use Rattle.board.proofs.Replies.{write-malformed, write-by}
 use Rattle.board.proofs.record.Board.window_write.Statement.{statement}
 use Rattle.board.proofs.record.Board.window_write.Tie as tie
+use Rattle.board.proofs.record.Board.window_write.Reads as reads
+use Rattle.board.proofs.record.Board.window_write.Lts as lts
+use Rattle.board.proofs.record.Board.well_formed.Reads as well-formed-reads
+use Rattle.slots.proofs.write_into.Reads as write-into-reads
+use Rattle.slots.proofs.record.Active.slot.Reads as slot-reads
 
 well-formed-requires : tie.Need-well-formed-requires
 well-formed-requires c κs = search needs
 
 returns : tie.Need-returns
-returns c = write-malformed _ _ _ _ _ (sym (c .before .well-formed .ensures) ∙ not-true _ (c .if1 .taken))
+returns c = ?
 
-well : (c : tie.Else1) → wellFormed (c .before .before .before .before .before .before .before .before .args .self) ≡ true
-well c = sym (c .before .well-formed .ensures) ∙ not-false _ (c .if1 .left)
+slot-requires : tie.Need-slot-requires
+slot-requires c κs = search needs
 
 write-into-requires : tie.Need-write-into-requires
 write-into-requires c κs = search needs
@@ -23,10 +23,9 @@ same-length : tie.Need-same-length
 same-length c = search needs
 
 returns-2 : tie.Need-returns-2
-returns-2 c =
-    let done = c .before .before in
-    write-by _ _ _ _ _ (well (done .before .before)) _ (done .write-into .ensures)
+returns-2 c = ?
 
 pub window-write-spec : {M : Type 1} → statement M
 window-write-spec =
-    tie.close (tie.spec well-formed-requires returns write-into-requires same-length returns-2)
+    tie.close
+    (tie.spec well-formed-requires returns slot-requires write-into-requires same-length returns-2)
