@@ -2,16 +2,14 @@
 -- Assumes nothing.
 use mathlib.Core.Path.{_≡_, sym, subst, _∙_}
 use mathlib.Core.Bool.{Bool, true, false, not, _&&_, _||_, false≢true}
-use Prim.Native.Nat.{ℕ, _≤_, _<_}
-use borrow.Author.Tests.{leb-true, not-true}
-use lib.Dec.{leb}
+use Prim.Native.Nat.{_<_}
+use borrow.Author.Tests.{not-true}
 use Rattle.lemmas.proofs.Booleans.{by-cases, both, and-left, and-right, or-first}
 use Rattle.commands.specs.Visits.{countOf}
 use Rattle.commands.specs.Record.{engineOk}
 use Rattle.commands.proofs.Sound.{engine-pixels}
 use Rattle.lists.specs.Cursors.{endedOf}
 use Rattle.slots.specs.Slots.{sizesOk, slotOk, activeOk}
-use Rattle.slots.specs.declared.record.Sizes.{Sizes}
 use Rattle.slots.proofs.Slotted.{Fetching, Visiting, fetching-of, visiting-of, active-cursor}
 use Rattle.board.specs.Record.{orderOk, wellFormed}
 use Rattle.board.specs.declared.record.Board.{Board}
@@ -44,13 +42,6 @@ good-of b h =
 pub well-of : (b : Board) → Good b → wellFormed b ≡ true
 unfolding wellFormed
 well-of b g = both (both (both (both (g .sizes) (g .engine)) (g .active)) (g .pending)) (g .order)
-
-pub entries-most : (z : Sizes) → sizesOk z ≡ true → z .entries ≤ 4096
-entries-most z h =
-    leb-true (z .entries) 4096
-    (and-right
-    (leb 1 (z .extent .width) && leb (z .extent .width) 2048 && leb 1 (z .extent .height) && leb (z .extent .height) 2048 && leb 1 (z .entries))
-    (leb (z .entries) 4096) h)
 
 -- what the parts are to one another
 module _ (b : Board) (g : Good b) where

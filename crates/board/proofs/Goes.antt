@@ -22,13 +22,13 @@ use Rattle.commands.specs.Steps.{Scene, visitOf, takenOf}
 use Rattle.leaps.specs.ListRuns.{Reached, stopped, longer, byStep, runFrom, listRun}
 use Rattle.leaps.proofs.Running.{by-next, run-fits, Within, within}
 use Rattle.answers.specs.Reports.{report}
-use Rattle.slots.proofs.Slotted.{active-inside, active-end, live-of}
+use Rattle.slots.proofs.Slotted.{limits-of, active-inside, active-end, live-of}
 use Rattle.board.specs.Record.{wellFormed}
 use Rattle.board.specs.Steps.{Machine, machine, nextOn, withSteps, settledOf, movedTo, sceneOf, actOf, stepOf}
 use Rattle.board.specs.Runs.{Outcome, ended, added, byNext, runOf, Leaped}
 use Rattle.board.specs.Left.{RunsCompose}
 use Rattle.board.specs.declared.record.Board.{Board}
-use Rattle.board.proofs.Forms.{Good, good-of, entries-most, at-rest}
+use Rattle.board.proofs.Forms.{good-of, at-rest}
 use Rattle.board.proofs.Keeps.{followed, stays-well-formed}
 
 -- ---- one step of a run
@@ -171,26 +171,27 @@ list-leads (suc budget) l m w e = go (list-leads budget l) (nextOn l (m .board))
     go rest Broken h = subst (Leads l m) (sym (by Broken h)) (leads-none l m true w e (λ _. h))
 
 -- what the steps of the active list answer
-pub leap-is : (budget : ℕ) (l : List ℕ) (m n : Machine) (r : Reached) → wellFormed (m .board) ≡ true → m .board .active .taken ≡ true → 1 ≤ budget
-    → r ≡ listRun budget l (m .board .sizes .extent) (m .board .active .cursor) (sceneOf m) → n ≡ after m r
-    → Leaped l m budget (r .steps) (r .broken) n
-leap-is budget l m n r w t asked is to =
-    let b = m .board in
-    let g = good-of b w in
-    let c = b .active .cursor in
-    let fits = run-fits l (b .sizes .extent) budget c (sceneOf m)
-    (omega (arith, active-inside (b .active) (b .sizes .entries) (b .engine .«under_way») (g .active), entries-most (b .sizes) (g .sizes))) in
-    let same : r ≡ onList budget l m = is ∙ sym fits in
-    let live = live-of (b .active) (b .sizes .entries) (b .engine .«under_way») (g .active) t in
+pub leap-is : (budget : ℕ) (l : List ℕ) (m : Machine) (r : Reached) (b : Board) → wellFormed (m .board) ≡ true → m .board .active .taken ≡ true
+    → 1 ≤ budget → r ≡ listRun budget l (m .board .sizes .extent) (m .board .active .cursor) (sceneOf m)
+    → b ≡ settledOf (withSteps (m .board) (r .cursor) (r .after .engine))
+    → Leaped l m budget (r .steps) (r .broken) (machine b (r .after .display) (r .after .virt))
+leap-is budget l m r b w t asked is to =
+    let a = m .board .active in
+    let z = m .board .sizes in
+    let u = m .board .engine .«under_way» in
+    let g = good-of (m .board) w in
+    let small : endOf (a .cursor .span) < 4294967296 = omega (arith, active-inside a (z .entries) u (g .active), limits-of z (g .sizes) .entries-most) in
+    let same : r ≡ onList budget l m = is ∙ sym (run-fits l (z .extent) budget (a .cursor) (sceneOf m) small) in
+    let live = live-of a (z .entries) u (g .active) t in
     let on = subst (Leads l m) (sym same) (list-leads budget l m w live) in
-    let kept = subst (λ r. Within budget (c) (sceneOf m) r) (sym same) (within l (b .sizes .extent) budget c (sceneOf m)) in
+    let kept = subst (λ r. Within budget (a .cursor) (sceneOf m) r) (sym same) (within l (z .extent) budget (a .cursor) (sceneOf m)) in
     record {
       few = kept .few;
-      well = subst (λ n. wellFormed (n .board) ≡ true) (sym to) (on .well);
-      run = λ k. on .run k ∙ ap (λ n. added (r .steps) (runOf k l n)) (sym to);
+      well = subst (λ b. wellFormed b ≡ true) (sym to) (on .well);
+      run = λ k. on .run k ∙ ap (λ b. added (r .steps) (runOf k l (machine b (r .after .display) (r .after .virt)))) (sym to);
       some = λ f. kept .some live asked f;
       early = kept .early;
-      stops = λ h. subst (λ n. nextOn l (n .board) ≡ Broken) (sym to) (on .stops h);
+      stops = λ h. subst (λ b. nextOn l b ≡ Broken) (sym to) (on .stops h);
     }
 
 -- ---- the loop of a run: k steps are done, and the rest of the run is that from here
@@ -241,10 +242,11 @@ running-stops budget l m₀ k m x number h e stops r =
     ∙ ap (added k) (sym (run-by l m x j e ∙ stops (runOf j l (stepOf l m)))) ∙ ap (λ i. added k (runOf i l m)) (sym split) ∙ r .same
 
 -- an illegal entry within the budget
-pub running-broken : (budget : ℕ) (l : List ℕ) (m₀ : Machine) (k j : ℕ) (m n : Machine) → k < budget → Leaped l m (budget - k) j true n
-    → Running budget l m₀ (k + j) n → _≡_ {A = Outcome} (record { report = report 9 0 (k + j); after = n }) (runOf budget l m₀)
-running-broken budget l m₀ k j m n h a r =
-    running-stops budget l m₀ (k + j) n Broken 9 (omega (arith, a .early refl)) (a .stops refl) (λ _. refl) r
+pub running-broken : (budget : ℕ) (l : List ℕ) (m₀ : Machine) (k j : ℕ) (broken : Bool) (m n : Machine) → k < budget
+    → Leaped l m (budget - k) j broken n → broken ≡ true → Running budget l m₀ (k + j) n
+    → _≡_ {A = Outcome} (record { report = report 9 0 (k + j); after = n }) (runOf budget l m₀)
+running-broken budget l m₀ k j broken m n h a t r =
+    running-stops budget l m₀ (k + j) n Broken 9 (omega (arith, a .early t)) (a .stops t) (λ _. refl) r
 
 -- the loop ends: the budget is spent, or no list is left
 pub running-over : (budget : ℕ) (l : List ℕ) (m₀ : Machine) (k : ℕ) (m : Machine) → (ltb k budget && m .board .active .taken) ≡ false

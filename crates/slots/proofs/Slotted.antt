@@ -14,9 +14,31 @@ use Rattle.lists.specs.Cursors.{cursorOn, cursorOk, fetchedOf, endedOf, restOf}
 use Rattle.lists.specs.declared.spans.Span.{Span}
 use Rattle.lists.specs.declared.cursors.Cursor.{Cursor}
 use Rattle.lists.proofs.Rests.{rest-end}
-use Rattle.slots.specs.Slots.{slotWith, emptySlot, activeOn, slotOf, slotOk, activeOk}
+use Rattle.slots.specs.declared.record.Sizes.{Sizes}
+use Rattle.slots.specs.Slots.{sizesOk, slotWith, emptySlot, activeOn, slotOf, slotOk, activeOk}
 use Rattle.slots.specs.declared.record.Slot.{Slot}
 use Rattle.slots.specs.declared.record.Active.{Active}
+
+-- ---- sizes
+pub record Limits (z : Sizes) : Type 0 where
+  pub width-most : z .extent .width ≤ 2048
+  pub height-most : z .extent .height ≤ 2048
+  pub entries-most : z .entries ≤ 4096
+
+pub limits-of : (z : Sizes) → sizesOk z ≡ true → Limits z
+limits-of z h =
+    let w1 = leb 1 (z .extent .width) in
+    let w2 = leb (z .extent .width) 2048 in
+    let h1 = leb 1 (z .extent .height) in
+    let h2 = leb (z .extent .height) 2048 in
+    let e1 = leb 1 (z .entries) in
+    let e2 = leb (z .entries) 4096 in
+    let four = and-left (w1 && w2 && h1 && h2) e1 (and-left (w1 && w2 && h1 && h2 && e1) e2 h) in
+    record {
+      width-most = leb-true (z .extent .width) 2048 (and-right w1 w2 (and-left (w1 && w2) h1 (and-left (w1 && w2 && h1) h2 four)));
+      height-most = leb-true (z .extent .height) 2048 (and-right (w1 && w2 && h1) h2 four);
+      entries-most = leb-true (z .entries) 4096 (and-right (w1 && w2 && h1 && h2 && e1) e2 h);
+    }
 
 -- ---- spans
 pub record SpanIn (s : Span) (entries : ℕ) : Type 0 where

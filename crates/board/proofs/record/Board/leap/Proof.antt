@@ -1,3 +1,6 @@
+use Rattle.board.proofs.Goes.{leap-is}
+use Rattle.board.specs.Steps.{machine}
+use mathlib.Core.Path.{ap}
 use borrow.Author.Needs.{needs}
 use Rattle.board.proofs.record.Board.leap.Statement.{statement}
 use Rattle.board.proofs.record.Board.leap.Tie as tie
@@ -19,7 +22,12 @@ same-length-2 : tie.Need-same-length-2
 same-length-2 c = search needs
 
 returns : tie.Need-returns
-returns c = ?
+returns c =
+    let done = c .before .before .before .before .before .before .before in
+    let start = done .before .before .before .before .before .before .before .before .before .before in
+    let s = start .args in
+    leap-is (s .budget) (s .list .now) (machine (s .self) (s .display .now) (s .virt .now)) _ _ (start .pre .0) (start .pre .1) (start .pre .2)
+    (done .run-list .ensures) (c .moved .ensures)
 
 pub leap-spec : {M : Type 1} → statement M
 leap-spec = tie.close (tie.spec run-list-requires moved-requires same-length same-length-2 returns)

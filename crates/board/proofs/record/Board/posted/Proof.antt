@@ -1,3 +1,5 @@
+use Rattle.board.specs.Calls.{postedOf}
+use Rattle.lemmas.proofs.Booleans.{first-of, second-of}
 use borrow.Author.Needs.{needs}
 use Rattle.board.proofs.record.Board.posted.Statement.{statement}
 use Rattle.board.proofs.record.Board.posted.Tie as tie
@@ -6,13 +8,15 @@ use Rattle.board.proofs.record.Board.posted.Lts as lts
 use Rattle.slots.proofs.record.Active.on.Reads as on-reads
 
 returns : tie.Need-returns
-returns c = ?
+unfolding postedOf
+returns c = first-of _ _ _ (c .if1 .taken)
 
 on-requires : tie.Need-on-requires
 on-requires c κs = search needs
 
 returns-2 : tie.Need-returns-2
-returns-2 c = ?
+unfolding postedOf
+returns-2 c = rw (c .on .ensures) (second-of _ _ _ (c .before .if1 .left))
 
 pub posted-spec : {M : Type 1} → statement M
 posted-spec = tie.close (tie.spec returns on-requires returns-2)

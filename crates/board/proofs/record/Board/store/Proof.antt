@@ -1,3 +1,9 @@
+use Rattle.board.proofs.Replies.{store-malformed, store-by}
+use Rattle.board.specs.Record.{wellFormed}
+use Rattle.slots.specs.Calls.{storeReport}
+use borrow.Author.Tests.{not-true, not-false}
+use mathlib.Core.Bool.{true}
+use mathlib.Core.Path.{_≡_, ap, sym, _∙_}
 use borrow.Author.Needs.{needs}
 use Rattle.board.proofs.record.Board.store.Statement.{statement}
 use Rattle.board.proofs.record.Board.store.Tie as tie
@@ -7,11 +13,14 @@ use Rattle.board.proofs.record.Board.well_formed.Reads as well-formed-r
 use Rattle.slots.proofs.store_into.Reads as store-into-reads
 use Rattle.slots.proofs.record.Active.slot.Reads as slot-reads
 
+well : (c : tie.Else1) → wellFormed (c .before .before .before .before .before .before .before .args .self) ≡ true
+well c = sym (c .before .well-formed .ensures) ∙ not-false _ (c .if1 .left)
+
 well-formed-requires : tie.Need-well-formed-requires
 well-formed-requires c κs = search needs
 
 returns : tie.Need-returns
-returns c = ?
+returns c = store-malformed _ _ _ _ (sym (c .before .well-formed .ensures) ∙ not-true _ (c .if1 .taken))
 
 slot-requires : tie.Need-slot-requires
 slot-requires c κs = search needs
@@ -23,7 +32,12 @@ same-length : tie.Need-same-length
 same-length c = search needs
 
 returns-2 : tie.Need-returns-2
-returns-2 c = ?
+returns-2 c =
+    let done = c .before .before in
+    let o = done .before .before in
+    let s = o .before .before .before .before .before .before .before .before .args in
+    store-by _ _ _ _ (well (o .before)) _
+    (done .store-into .ensures ∙ ap (λ a. storeReport (s .self .sizes) a (s .self .pending) (s .list .now) (s .first) (s .bytes .now)) (o .slot .ensures))
 
 pub store-spec : {M : Type 1} → statement M
 store-spec =

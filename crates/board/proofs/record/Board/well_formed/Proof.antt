@@ -1,3 +1,4 @@
+use Rattle.board.specs.Record.{wellFormed}
 use borrow.Author.Needs.{needs}
 use Rattle.board.proofs.record.Board.well_formed.Statement.{statement}
 use Rattle.board.proofs.record.Board.well_formed.Tie as tie
@@ -25,7 +26,16 @@ order-ok-requires : tie.Need-order-ok-requires
 order-ok-requires c κs = search needs
 
 returns : tie.Need-returns
-returns c = ?
+unfolding wellFormed
+returns c =
+    let e = c .before .before .before in
+    rw (
+      e .before .in-limits .ensures,
+      e .well-formed .ensures,
+      c .before .before .well-formed2 .ensures,
+      c .before .well-formed3 .ensures,
+      c .order-ok .ensures,
+    )
 
 pub well-formed-spec : {M : Type 1} → statement M
 well-formed-spec =
