@@ -3,3 +3,4 @@ pub mod Rule
 pub mod Normal
 pub mod Examples
 pub mod Wide
+pub mod Codes

@@ -1,3 +1,4 @@
 pub mod Raster
 pub mod Selectors
 pub mod Examples
+pub mod Codes

@@ -7,4 +7,3 @@ pub mod Writing
 pub mod Commutes
 pub mod Sequence
 pub mod Rows
-pub mod Codes

@@ -2,4 +2,3 @@ pub mod Paper
 pub mod World
 pub mod Demand
 pub mod Examples
-pub mod Codes
