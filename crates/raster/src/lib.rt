@@ -3,7 +3,7 @@ ghost use mathlib.Core.Path.{_≡_};
 ghost use Prim.Native.Nat.{_<_, _-_, _*_};
 ghost use lib.Bits.{bitXor};
 ghost use Rattle.raster.specs.Raster.{newByte};
-ghost use Rattle.raster.specs.Selectors.{penOf, drawn, selectorsOf, selected};
+ghost use Rattle.raster.specs.Selectors.{penOf, drawn, selectorsOf};
 
 // The bits of x that are b, as ones: x itself for a 1, its complement for a 0.
 fn places(x: u8, b: u8) -> u8
@@ -77,16 +77,6 @@ impl Selectors {
             old: zeros.keep,
             source: ones.flip ^ zeros.flip,
             none: zeros.flip,
-        }
-    }
-
-    // The pen for a source byte.
-    pub fn pen_for(self, source: u8) -> Pen
-        ensures { λ r. ⌜ r ≡ selected self source ⌝ }
-    {
-        Pen {
-            keep: (source & self.both) ^ self.old,
-            flip: (source & self.source) ^ self.none,
         }
     }
 }

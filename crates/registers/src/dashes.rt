@@ -105,7 +105,7 @@ impl Pattern {
 }
 
 // The state after one more pixel, of the pattern that PCTRL describes.
-pub fn next_by(p: Pattern, pctrl: u32) -> Pattern
+fn next_by(p: Pattern, pctrl: u32) -> Pattern
     ensures { λ r. ⌜ r ≡ nextOf (patternControlOf pctrl) p ⌝ }
 {
     p.next(pattern_control_of(pctrl))

@@ -5,6 +5,5 @@ mod states;
 
 pub use dashes::Pattern;
 pub use dashes::advance;
-pub use dashes::next_by;
 pub use file::Registers;
 pub use states::state_ok;

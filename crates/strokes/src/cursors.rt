@@ -19,19 +19,19 @@ use registers::Pattern;
 use rows::fill_row;
 
 // A pixel's place, and how much the minor axis' error term may grow before it is full.
-pub struct Cursor {
-    pub place: usize,
-    pub slack: usize,
+struct Cursor {
+    place: usize,
+    slack: usize,
 }
 
 // What a place moves by: ahead and back at each pixel, up and down where the growth leaves no slack, which then gains `wrap`.
-pub struct Strides {
-    pub growth: usize,
-    pub wrap: usize,
-    pub ahead: usize,
-    pub back: usize,
-    pub up: usize,
-    pub down: usize,
+struct Strides {
+    growth: usize,
+    wrap: usize,
+    ahead: usize,
+    back: usize,
+    up: usize,
+    down: usize,
 }
 
 impl Cursor {
@@ -69,9 +69,9 @@ impl Cursor {
 }
 
 // Where a stretch starts, and what it moves by.
-pub struct Course {
-    pub start: Cursor,
-    pub strides: Strides,
+struct Course {
+    start: Cursor,
+    strides: Strides,
 }
 
 // A step of the major axis is `along` places, one of the minor axis `across`.

@@ -10,10 +10,10 @@ use raster::Pen;
 use registers::Pattern;
 
 // A pattern state, and the bits of LPAT from its place on.
-pub struct Phase {
-    pub bits: usize,
-    pub place: usize,
-    pub repeat: usize,
+pub(crate) struct Phase {
+    pub(crate) bits: usize,
+    place: usize,
+    repeat: usize,
 }
 
 pub(crate) fn phase_at(lpat: u32, p: Pattern) -> Phase

@@ -11,9 +11,9 @@ use geometry::line_steps;
 use geometry::point_of;
 
 // Pixels of a line by their numbers, from `start` to the one before `end`.
-pub struct Span {
-    pub start: usize,
-    pub end: usize,
+pub(crate) struct Span {
+    pub(crate) start: usize,
+    pub(crate) end: usize,
 }
 
 // How many pixels have gone at most 2 n m + half along an axis, of which each goes 2 d; the major axis needs no division.

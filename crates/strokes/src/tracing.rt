@@ -7,12 +7,12 @@ use geometry::line_steps;
 use geometry::point_of;
 
 // One coordinate of a pixel. The error term grows at each pixel, and the coordinate steps up or down where it is full.
-pub struct Stepper {
-    pub coordinate: usize,
-    pub error: usize,
-    pub growth: usize,
-    pub up: usize,
-    pub down: usize,
+pub(crate) struct Stepper {
+    pub(crate) coordinate: usize,
+    pub(crate) error: usize,
+    pub(crate) growth: usize,
+    pub(crate) up: usize,
+    pub(crate) down: usize,
 }
 
 // At pixel i of a line of n steps, along an axis from a to b.
@@ -44,10 +44,10 @@ fn stepper_at(n: usize, i: usize, a: usize, b: usize) -> Stepper
 }
 
 // Both coordinates of a line's pixel; `full` is twice the line's steps.
-pub struct Tracer {
-    pub x: Stepper,
-    pub y: Stepper,
-    pub full: usize,
+pub(crate) struct Tracer {
+    pub(crate) x: Stepper,
+    pub(crate) y: Stepper,
+    pub(crate) full: usize,
 }
 
 // At pixel i of a line.
