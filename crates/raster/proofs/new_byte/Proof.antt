@@ -1,3 +1,7 @@
+-- `raster::new_byte` meets its contract. The loop's invariant: `new` is what the first `pair` pairs of a source bit and an
+-- old bit have set (`setIn`), and `next-turn` gives a turn. The measure is 4 less `pair`. After the loop, `rule`: what four
+-- turns have set, masked, is the raster rule's byte.
+-- Assumes nothing.
 use borrow.Author.Needs.{needs}
 use native.Mathlib.Omega.{arith}
 use mathlib.Core.Path.{_≡_, ap, _∙_}

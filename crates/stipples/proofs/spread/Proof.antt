@@ -1,3 +1,6 @@
+-- `stipples::spread` meets its contract. A masked word is at most its mask (`and-le-r`), so that neither the sum nor the
+-- product overflows; the result is `spreadOf` operation by operation.
+-- Assumes nothing.
 use borrow.Author.Needs.{needs}
 use native.Mathlib.Omega.{arith}
 use Prim.Native.Nat.{_+_, _/_, _^_}

@@ -1,3 +1,6 @@
+-- `raster::Pen::new` meets its contract: `new_byte` on an old byte of all ones and on one of all zeros gives the two bytes
+-- of `penOf`.
+-- Assumes nothing.
 use borrow.Author.Needs.{needs}
 use Rattle.raster.specs.Selectors.{penOf}
 use Rattle.raster.proofs.Pen.new.Statement.{statement}

@@ -1,3 +1,6 @@
+-- `raster::Selectors::new` meets its contract: the pens of a source byte of all ones and of one of all zeros give the four
+-- bytes of `selectorsOf`.
+-- Assumes nothing.
 use borrow.Author.Needs.{needs}
 use Rattle.raster.specs.Selectors.{selectorsOf}
 use Rattle.raster.proofs.Selectors.new.Statement.{statement}

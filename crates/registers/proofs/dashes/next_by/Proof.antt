@@ -1,4 +1,4 @@
--- `registers::dashes::next_by` meets its contract.
+-- `registers::dashes::next_by` meets its contract, by what `pattern_control_of` and `next` ensure.
 -- Assumes nothing.
 use borrow.Author.Needs.{needs}
 use Rattle.registers.proofs.dashes.next_by.Statement.{statement}

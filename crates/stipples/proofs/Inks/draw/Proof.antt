@@ -1,3 +1,5 @@
+-- `stipples::Inks::draw` meets its contract: with what `spread` ensures, the result is `inked` operation by operation.
+-- Assumes nothing.
 use borrow.Author.Needs.{needs}
 use Rattle.stipples.specs.Words.{inked}
 use Rattle.stipples.proofs.Inks.draw.Statement.{statement}

@@ -1,3 +1,6 @@
+-- `stipples::Stipple::draw` meets its contract. Each return is what `stippled` picks by the bit and by `clear`, as the
+-- tests found them.
+-- Assumes nothing.
 use borrow.Author.Needs.{needs}
 use Rattle.stipples.proofs.Stipple.draw.Statement.{statement}
 use Rattle.stipples.proofs.Stipple.draw.Tie as tie

@@ -1,3 +1,6 @@
+-- `stipples::Stipple::inks` meets its contract: what `zero` and the four calls of `eight` ensure makes the fields of
+-- `inksOf`.
+-- Assumes nothing.
 use borrow.Author.Needs.{needs}
 use Rattle.stipples.specs.Words.{inksOf}
 use Rattle.stipples.proofs.Stipple.inks.Statement.{statement}

@@ -1,3 +1,5 @@
+-- `stipples::Stipple::zero` meets its contract. Each return is what `zeroPen` picks by `clear`.
+-- Assumes nothing.
 use Rattle.stipples.proofs.Stipple.zero.Statement.{statement}
 use Rattle.stipples.proofs.Stipple.zero.Tie as tie
 

@@ -1,3 +1,7 @@
+-- `registers::dashes::Pattern::after` meets its contract. After no pixel it is the state itself (`moves-none`); where the
+-- repeat does not reach the scale only the repeat moves (`after-within`); else repeat and place go round (`after-rounds`).
+-- A remainder is below a scale or a length, or 0, so that it fits the cast (`turned-small`).
+-- Assumes nothing.
 use Prim.Native.Nat.{_+_, _/_}
 use native.Mathlib.Nat.{div-le-self}
 use native.Mathlib.Omega.{arith}

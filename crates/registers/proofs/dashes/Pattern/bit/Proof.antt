@@ -1,3 +1,6 @@
+-- `registers::dashes::Pattern::bit` meets its contract. From place 32 on LPAT has no bit (`bit-past`); below it the shift
+-- and the remainder are `patternBit`.
+-- Assumes nothing.
 use borrow.Author.Needs.{needs}
 use mathlib.Core.Path.{refl, sym}
 use Rattle.registers.specs.Patterns.{patternBit}

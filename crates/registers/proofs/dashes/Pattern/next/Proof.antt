@@ -1,3 +1,5 @@
+-- `registers::dashes::Pattern::next` meets its contract. Each return is the case of `nextOf` that the two tests chose.
+-- Assumes nothing.
 use borrow.Author.Needs.{needs}
 use borrow.Author.Tests.{lt-ltb, le-ltb}
 use Rattle.registers.specs.Patterns.{nextOf}

@@ -1,3 +1,6 @@
+-- `registers::file::Registers::legal` meets its contract: what the thirteen calls of `legal_data` ensure makes the terms of
+-- `registersLegal`.
+-- Assumes nothing.
 use borrow.Author.Needs.{needs}
 use Rattle.registers.proofs.file.Registers.legal.Statement.{statement}
 use Rattle.registers.proofs.file.Registers.legal.Tie as tie

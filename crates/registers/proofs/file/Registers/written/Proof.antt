@@ -1,3 +1,6 @@
+-- `registers::file::Registers::written` meets its contract. Where a test is taken the register's number is known, and
+-- `writtenOf` computes; at the last return no number is, so that `writtenOf` leaves every register as it was.
+-- Assumes nothing.
 use borrow.Author.Tests.{ne-eqb}
 use Rattle.registers.specs.Registers.{writtenOf}
 use Rattle.registers.proofs.file.Registers.written.Statement.{statement}
