@@ -1,4 +1,4 @@
--- Along each axis a line's pixels go one way, so what lies between two that a window lets through is let through too.
+-- Along each axis a line's pixels go one way, so what lies between two visible pixels is visible too.
 -- Assumes nothing.
 use mathlib.Core.Path.{_≡_, refl, ap}
 use mathlib.Core.Logic.{_⊎_, ⊎-elim, inl, inr}

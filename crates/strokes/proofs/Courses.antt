@@ -17,19 +17,19 @@ use Rattle.geometry.specs.Coordinates.{origin}
 use Rattle.registers.specs.Patterns.{patternBit, nextOf}
 use Rattle.registers.specs.declared.dashes.Pattern.{Pattern}
 use Rattle.geometry.specs.Clip.{placeIn}
-use Rattle.strokes.specs.Strokes.{Dashed, dashed}
+use Rattle.strokes.specs.Strokes.{plot, Dashed, dashed}
 use Rattle.lemmas.specs.Turns.{inTurn}
 use Rattle.strokes.specs.Tracers.{Room, stepped, pointOn, RoomBoth, traced, tracerAfter, Runs}
 use Rattle.strokes.specs.Phases.{dashPen}
-use Rattle.strokes.specs.Cursors.{moved, Moves, cursorAfter, courseBy, courseOf, Places, Above, mark, dashMark, markAt, dashMarkAt, markOn, dashMarkOn, Stretch}
+use Rattle.strokes.specs.Bresenham.{moved, Moves, bresenhamAfter, courseBy, courseOf, Places, Above, plotDash, plotAt, plotDashAt, plotOn, plotDashOn, Stretch}
 use Rattle.strokes.specs.declared.Dashes.{Dashes}
-use Rattle.strokes.specs.declared.tracing.Stepper.{Stepper}
-use Rattle.strokes.specs.declared.tracing.Tracer.{Tracer}
-use Rattle.strokes.specs.declared.cursors.Cursor.{Cursor}
-use Rattle.strokes.specs.declared.cursors.Strides.{Strides}
-use Rattle.strokes.specs.declared.cursors.Course.{Course}
+use Rattle.strokes.specs.declared.tracers.Stepper.{Stepper}
+use Rattle.strokes.specs.declared.tracers.Tracer.{Tracer}
+use Rattle.strokes.specs.declared.bresenham.Bresenham.{Bresenham}
+use Rattle.strokes.specs.declared.bresenham.Strides.{Strides}
+use Rattle.strokes.specs.declared.bresenham.Course.{Course}
 use Rattle.lemmas.proofs.Turns.{turn-none, turn-more, turn-agree}
-use Rattle.strokes.proofs.Plots.{flat-drawn, clear-mark, pen-draws}
+use Rattle.strokes.proofs.Plots.{flat-drawn, clear-plot, chosen-draws}
 
 -- a coordinate's step, in places
 module _ (c up down m r : ℕ) (here : origin ≤ c) (there : origin ≤ c + up - down) where
@@ -225,7 +225,7 @@ module _ (width : ℕ) (t : Tracer) where
 
 -- k pixels on the course is the one of the tracer there
 record At (width : ℕ) (t : Tracer) (k : ℕ) : Type 0 where
-  start-is : cursorAfter (courseOf width t .strides) (courseOf width t .start) k ≡ courseOf width (tracerAfter t k) .start
+  start-is : bresenhamAfter (courseOf width t .strides) (courseOf width t .start) k ≡ courseOf width (tracerAfter t k) .start
   strides-are : courseOf width t .strides ≡ courseOf width (tracerAfter t k) .strides
   major-is : Major (tracerAfter t k)
 
@@ -251,8 +251,8 @@ module _ (width : ℕ) (t : Tracer) (n long : ℕ) (s : Stretch width t n long) 
   at k l = after width t k (λ j h. s .runs j (omega arith)) (s .major) (λ j h. above j (omega arith))
 
   pub place-on : (k : ℕ) → k < n
-      → cursorAfter (courseOf width t .strides) (courseOf width t .start) k .place ≡ placeIn width (pointOn (tracerAfter t k))
-  place-on k l = ap (λ (c : Cursor). c .place) (at k l .start-is) ∙ place-is width (tracerAfter t k)
+      → bresenhamAfter (courseOf width t .strides) (courseOf width t .start) k .place ≡ placeIn width (pointOn (tracerAfter t k))
+  place-on k l = ap (λ (c : Bresenham). c .place) (at k l .start-is) ∙ place-is width (tracerAfter t k)
 
   pub first-above : 0 < n → Above t
   unfolding inTurn
@@ -274,45 +274,45 @@ module _ (width : ℕ) (t : Tracer) (n long : ℕ) (s : Stretch width t n long) 
             (has-room width (tracerAfter t k) narrow (o .major-is) (s .runs k (omega arith)) (above k (omega arith)) (next-above k l));
       }
 
-  pub marks-on : (pen : Pen) (l m : List ℕ)
-      → m ≡ inTurn (markAt pen (courseOf width t .strides) (courseOf width t .start)) n l → m ≡ inTurn (markOn width pen t) n l
-  marks-on pen l m e =
-      e ∙ turn-agree (markAt pen (courseOf width t .strides) (courseOf width t .start)) (markOn width pen t) n l
-      (λ k h b. ap (λ (i : ℕ). mark pen i b) (place-on k h))
+  pub plots-on : (pen : Pen) (l m : List ℕ)
+      → m ≡ inTurn (plotAt pen (courseOf width t .strides) (courseOf width t .start)) n l → m ≡ inTurn (plotOn width pen t) n l
+  plots-on pen l m e =
+      e ∙ turn-agree (plotAt pen (courseOf width t .strides) (courseOf width t .start)) (plotOn width pen t) n l
+      (λ k h b. ap (λ (i : ℕ). plot pen i b) (place-on k h))
 
-  pub dash-marks-on : (d : Dashes) (o r : Dashed)
-      → r ≡ inTurn (dashMarkAt d (courseOf width t .strides) (courseOf width t .start)) n o → r ≡ inTurn (dashMarkOn width d t) n o
-  dash-marks-on d o r e =
-      e ∙ turn-agree (dashMarkAt d (courseOf width t .strides) (courseOf width t .start)) (dashMarkOn width d t) n o
-      (λ k h b. ap (λ (i : ℕ). dashMark d i b) (place-on k h))
+  pub plot-dashes-on : (d : Dashes) (o r : Dashed)
+      → r ≡ inTurn (plotDashAt d (courseOf width t .strides) (courseOf width t .start)) n o → r ≡ inTurn (plotDashOn width d t) n o
+  plot-dashes-on d o r e =
+      e ∙ turn-agree (plotDashAt d (courseOf width t .strides) (courseOf width t .start)) (plotDashOn width d t) n o
+      (λ k h b. ap (λ (i : ℕ). plotDash d i b) (place-on k h))
 
 -- one more pixel of a loop
-module _ (s : Strides) (start c : Cursor) (j : ℕ) (at : c ≡ cursorAfter s start j) where
-  here : c .place ≡ cursorAfter s start j .place
-  here = ap (λ (q : Cursor). q .place) at
+module _ (s : Strides) (start c : Bresenham) (j : ℕ) (at : c ≡ bresenhamAfter s start j) where
+  here : c .place ≡ bresenhamAfter s start j .place
+  here = ap (λ (q : Bresenham). q .place) at
 
-  pub mark-more : (pen : Pen) (l₀ l : List ℕ) (new : ℕ) → l ≡ inTurn (markAt pen s start) j l₀
-      → new ≡ drawn pen (getD l (c .place) 0) → set l (c .place) new ≡ inTurn (markAt pen s start) (j + 1) l₀
-  mark-more pen l₀ l new e f =
-      turn-more (markAt pen s start) l₀ j l (set l (c .place) new) e
-      (ap (λ (b : ℕ). set l (c .place) b) f ∙ ap (λ (i : ℕ). mark pen i l) here)
+  pub plot-more : (pen : Pen) (l₀ l : List ℕ) (new : ℕ) → l ≡ inTurn (plotAt pen s start) j l₀
+      → new ≡ drawn pen (getD l (c .place) 0) → set l (c .place) new ≡ inTurn (plotAt pen s start) (j + 1) l₀
+  plot-more pen l₀ l new e f =
+      turn-more (plotAt pen s start) l₀ j l (set l (c .place) new) e
+      (ap (λ (b : ℕ). set l (c .place) b) f ∙ ap (λ (i : ℕ). plot pen i l) here)
 
-  pub store-more : (pen : Pen) (l₀ l : List ℕ) → pen .keep ≡ 0 → l ≡ inTurn (markAt pen s start) j l₀
-      → set l (c .place) (pen .flip) ≡ inTurn (markAt pen s start) (j + 1) l₀
-  store-more pen l₀ l h e = mark-more pen l₀ l (pen .flip) e (flat-drawn pen (getD l (c .place) 0) h)
+  pub store-more : (pen : Pen) (l₀ l : List ℕ) → pen .keep ≡ 0 → l ≡ inTurn (plotAt pen s start) j l₀
+      → set l (c .place) (pen .flip) ≡ inTurn (plotAt pen s start) (j + 1) l₀
+  store-more pen l₀ l h e = plot-more pen l₀ l (pen .flip) e (flat-drawn pen (getD l (c .place) 0) h)
 
-  pub dash-mark-more : (d : Dashes) (o b r : Dashed) → b ≡ inTurn (dashMarkAt d s start) j o → r ≡ dashMark d (c .place) b
-      → r ≡ inTurn (dashMarkAt d s start) (j + 1) o
-  dash-mark-more d o b r e f = turn-more (dashMarkAt d s start) o j b r e (f ∙ ap (λ (i : ℕ). dashMark d i b) here)
+  pub plot-dash-more : (d : Dashes) (o b r : Dashed) → b ≡ inTurn (plotDashAt d s start) j o → r ≡ plotDash d (c .place) b
+      → r ≡ inTurn (plotDashAt d s start) (j + 1) o
+  plot-dash-more d o b r e f = turn-more (plotDashAt d s start) o j b r e (f ∙ ap (λ (i : ℕ). plotDash d i b) here)
 
-  pub cursor-more : (u : Cursor) → u ≡ moved s c → u ≡ cursorAfter s start (j + 1)
-  cursor-more u f = turn-more (λ _. moved s) start j c u at f
+  pub state-more : (u : Bresenham) → u ≡ moved s c → u ≡ bresenhamAfter s start (j + 1)
+  state-more u f = turn-more (λ _. moved s) start j c u at f
 
-pub dash-mark-of : (d : Dashes) (place : ℕ) (l : List ℕ) (q r : Pattern) (pen : Pen) (new : ℕ)
+pub plot-dash-of : (d : Dashes) (place : ℕ) (l : List ℕ) (q r : Pattern) (pen : Pen) (new : ℕ)
     → ((k : ℕ) → getD l k 0 < 256) → pen ≡ dashPen d q → new ≡ drawn pen (getD l place 0) → r ≡ nextOf (d .control) q
-    → dashed (set l place new) r ≡ dashMark d place (dashed l q)
-unfolding dashMark
-dash-mark-of d place l q r pen new h e f g =
-    let draw : Pen → List ℕ = λ k. mark k place l in
-    let drew = ap (set l place) f ∙ ap draw e ∙ pen-draws (patternBit (d .lpat) q) (d .clear) (d .fore) (d .back) draw l (clear-mark place l (h place)) in
+    → dashed (set l place new) r ≡ plotDash d place (dashed l q)
+unfolding plotDash
+plot-dash-of d place l q r pen new h e f g =
+    let draw : Pen → List ℕ = λ k. plot k place l in
+    let drew = ap (set l place) f ∙ ap draw e ∙ chosen-draws (patternBit (d .lpat) q) (d .clear) (d .fore) (d .back) draw l (clear-plot place l (h place)) in
     λ i. dashed (drew i) (g i)

@@ -12,7 +12,7 @@ use Rattle.geometry.specs.declared.Point.{Point}
 use Rattle.geometry.specs.declared.Window.{Window}
 use Rattle.geometry.proofs.Lines.{Near, near, below, le-of-not-lt, parts, from-a-to-b}
 use Rattle.geometry.proofs.Windows.{shown-of, shown-by}
-use Rattle.strokes.specs.Spans.{Counts, Below, AtLeast, Spans, Seen}
+use Rattle.strokes.specs.Spans.{Counts, Below, AtLeast, Spans, Visible}
 use Rattle.strokes.specs.declared.spans.Span.{Span}
 use Rattle.strokes.proofs.Between.{between}
 use Rattle.strokes.proofs.Terms.{nearest-below}
@@ -130,10 +130,10 @@ module _ (n a b low high start end : ℕ) where
 short : (i last steps : ℕ) → i < last → last ≤ steps + 1 → i ≤ steps
 short i last steps g l = omega arith
 
--- a line whose ends are let through is let through whole
-pub seen-whole : (w : Window) (a b p q : Point) (first n : ℕ) → first + n ≤ stepsOf a b + 1 → p ≡ a → q ≡ b
-    → (inWindow w p && inWindow w q) ≡ true → Seen w a b first n (record { start = first; end = first + n })
-seen-whole w a b p q first n l e f h =
+-- a line whose ends are visible is visible whole
+pub visible-whole : (w : Window) (a b p q : Point) (first n : ℕ) → first + n ≤ stepsOf a b + 1 → p ≡ a → q ≡ b
+    → (inWindow w p && inWindow w q) ≡ true → Visible w a b first n (record { start = first; end = first + n })
+visible-whole w a b p q first n l e f h =
     let ends = from-a-to-b a b in
     let at-a : inWindow w (linePoint a b 0) ≡ true = ap (inWindow w) (ends .0 ∙ sym e) ∙ and-left (inWindow w p) (inWindow w q) h in
     let at-b : inWindow w (linePoint a b (stepsOf a b)) ≡ true = ap (inWindow w) (ends .1 ∙ sym f) ∙ and-right (inWindow w p) (inWindow w q) h in
@@ -161,11 +161,11 @@ first-most f x y = omega arith
 last-least : (f x y : ℕ) → min (min f x) y ≤ f
 last-least f x y = omega arith
 
-pub seen-part : (w : Window) (a b : Point) (first n : ℕ) (x y : Span) → first + n ≤ stepsOf a b + 1
+pub visible-part : (w : Window) (a b : Point) (first n : ℕ) (x y : Span) → first + n ≤ stepsOf a b + 1
     → Spans (stepsOf a b) (a .x) (b .x) (w .left) (w .right) x → Spans (stepsOf a b) (a .y) (b .y) (w .top) (w .bottom) y
-    → Seen w a b first n
+    → Visible w a b first n
     (record { start = max (max first (x .start)) (y .start); end = min (min (first + n) (x .end)) (y .end) })
-seen-part w a b first n x y l p q =
+visible-part w a b first n x y l p q =
     record {
       from-first = first-most first (x .start) (y .start);
       to-last = last-least (first + n) (x .end) (y .end);
@@ -185,18 +185,18 @@ seen-part w a b first n x y l p q =
           (q .only i on (s .from-top) (s .to-bottom));
     }
 
-pub seen-by : (w : Window) (a b p q : Point) (first n steps : ℕ) (x y : Span) (s₁ s₂ e₁ e₂ : ℕ) → first + n ≤ stepsOf a b + 1
+pub visible-by : (w : Window) (a b p q : Point) (first n steps : ℕ) (x y : Span) (s₁ s₂ e₁ e₂ : ℕ) → first + n ≤ stepsOf a b + 1
     → p ≡ a → q ≡ b → steps ≡ stepsOf a b → Spans steps (p .x) (q .x) (w .left) (w .right) x → Spans steps (p .y) (q .y) (w .top) (w .bottom) y
     → s₁ ≡ max first (x .start) → s₂ ≡ max s₁ (y .start) → e₁ ≡ min (first + n) (x .end) → e₂ ≡ min e₁ (y .end)
-    → Seen w a b first n (record { start = s₂; end = e₂ })
-seen-by w a b p q first n steps x y s₁ s₂ e₁ e₂ l e f g u v h i j k =
-    rw (i, h, k, j) (seen-part w a b first n x y l (rw (e, f, g) at u) (rw (e, f, g) at v))
+    → Visible w a b first n (record { start = s₂; end = e₂ })
+visible-by w a b p q first n steps x y s₁ s₂ e₁ e₂ l e f g u v h i j k =
+    rw (i, h, k, j) (visible-part w a b first n x y l (rw (e, f, g) at u) (rw (e, f, g) at v))
 
 -- a line that lies left or right of the window
-pub seen-beside : (w : Window) (a b p q : Point) (first n steps : ℕ) (x : Span) → first + n ≤ stepsOf a b + 1
+pub hidden-beside : (w : Window) (a b p q : Point) (first n steps : ℕ) (x : Span) → first + n ≤ stepsOf a b + 1
     → p ≡ a → q ≡ b → steps ≡ stepsOf a b → Spans steps (p .x) (q .x) (w .left) (w .right) x → x .end ≤ x .start
-    → Seen w a b first n (record { start = first; end = first })
-seen-beside w a b p q first n steps x l e f g u none =
+    → Visible w a b first n (record { start = first; end = first })
+hidden-beside w a b p q first n steps x l e f g u none =
     let spans = rw (e, f, g) at u in
     record {
       from-first = omega arith;

@@ -15,7 +15,7 @@ use Rattle.geometry.specs.declared.Window.{Window}
 use Rattle.geometry.proofs.Clips.{area}
 use Rattle.geometry.proofs.Windows.{shown-of}
 use Rattle.strokes.specs.Strokes.{windowFits}
-use Rattle.strokes.specs.Cursors.{Placed}
+use Rattle.strokes.specs.Bresenham.{Placed}
 
 pub too-low : (width : ℕ) (w : Window) (long : ℕ) → origin + 65536 < w .bottom → false ≡ windowFits width w long
 too-low width w long h = rw (lt-leb (w .bottom) (origin + 65536) h) (simp and-false)
@@ -43,7 +43,7 @@ fits-of width w long h =
       rows-in = leb-true ((w .bottom - origin) * width) long (t .3);
     }
 
--- a pixel that is let through has a place in the buffer
+-- a visible pixel has a place in the buffer
 pub placed : (width : ℕ) (w : Window) (long : ℕ) (p : Point) → windowFits width w long ≡ true → inWindow w p ≡ true → Placed width long p
 placed width w long p h g =
     let f = fits-of width w long h in

@@ -16,21 +16,22 @@ use Rattle.raster.specs.declared.Pen.{Pen}
 use Rattle.rows.specs.Rows.{sweep, filled, filledRow}
 use Rattle.rows.proofs.Fitting.{filled-row}
 use Rattle.rows.proofs.Orders.{fill-turned-at}
-use Rattle.strokes.specs.Cursors.{moved, cursorAfter, Places, mark, markAt}
-use Rattle.strokes.specs.declared.cursors.Cursor.{Cursor}
-use Rattle.strokes.specs.declared.cursors.Strides.{Strides}
+use Rattle.strokes.specs.Bresenham.{moved, bresenhamAfter, Places, plotAt}
+use Rattle.strokes.specs.Strokes.{plot}
+use Rattle.strokes.specs.declared.bresenham.Bresenham.{Bresenham}
+use Rattle.strokes.specs.declared.bresenham.Strides.{Strides}
 
 pub level-test : (a b : ℕ) → (eqb a 0 && eqb b 1) ≡ true → (a ≡ 0) × (b ≡ 1)
 level-test a b h = (eqb-true a 0 (and-left (eqb a 0) (eqb b 1) h), eqb-true b 1 (and-right (eqb a 0) (eqb b 1) h))
 
 -- one byte after the other is a sweep
-marks-sweep : (pen : Pen) (place : ℕ → ℕ) (n : ℕ) (l : List ℕ)
-    → inTurn (λ k. mark pen (place k)) n l ≡ sweep place (λ k m. drawn pen (getD m (place k) 0)) n l
+plots-sweep : (pen : Pen) (place : ℕ → ℕ) (n : ℕ) (l : List ℕ)
+    → inTurn (λ k. plot pen (place k)) n l ≡ sweep place (λ k m. drawn pen (getD m (place k) 0)) n l
 unfolding inTurn sweep
-marks-sweep pen place zero l = refl
-marks-sweep pen place (suc n) l = ap (mark pen (place n)) (marks-sweep pen place n l)
+plots-sweep pen place zero l = refl
+plots-sweep pen place (suc n) l = ap (plot pen (place n)) (plots-sweep pen place n l)
 
-pub on-level : (s : Strides) (c : Cursor) → s .growth ≡ 0 → 0 < c .slack
+pub on-level : (s : Strides) (c : Bresenham) → s .growth ≡ 0 → 0 < c .slack
     → record { place = c .place + s .ahead - s .back; slack = c .slack } ≡ moved s c
 unfolding moved
 on-level s c level h =
@@ -38,9 +39,9 @@ on-level s c level h =
     let less : s .growth < c .slack = omega arith in
     rw (lt-ltb (s .growth) (c .slack) less) (λ i. record { place = c .place + s .ahead - s .back; slack = same i })
 
-module _ (s : Strides) (start : Cursor) (n long : ℕ) (some : 0 < n) (p : Places s start n long) (level : s .growth ≡ 0) where
+module _ (s : Strides) (start : Bresenham) (n long : ℕ) (some : 0 < n) (p : Places s start n long) (level : s .growth ≡ 0) where
   -- k pixels on
-  right-by : s .ahead ≡ 1 → s .back ≡ 0 → (k : ℕ) → cursorAfter s start k ≡ record { place = start .place + k; slack = start .slack }
+  right-by : s .ahead ≡ 1 → s .back ≡ 0 → (k : ℕ) → bresenhamAfter s start k ≡ record { place = start .place + k; slack = start .slack }
   unfolding inTurn
   right-by e f zero = let none : start .place ≡ start .place + 0 = omega arith in λ i. record { place = none i; slack = start .slack }
   right-by e f (suc k) =
@@ -48,7 +49,7 @@ module _ (s : Strides) (start : Cursor) (n long : ℕ) (some : 0 < n) (p : Place
       ap (moved s) (right-by e f k) ∙ sym (on-level s (record { place = start .place + k; slack = start .slack }) level (p .slack-some))
       ∙ (λ i. record { place = one i; slack = start .slack })
 
-  left-by : s .ahead ≡ 0 → s .back ≡ 1 → (k : ℕ) → cursorAfter s start k ≡ record { place = start .place - k; slack = start .slack }
+  left-by : s .ahead ≡ 0 → s .back ≡ 1 → (k : ℕ) → bresenhamAfter s start k ≡ record { place = start .place - k; slack = start .slack }
   unfolding inTurn
   left-by e f zero = let none : start .place ≡ start .place - 0 = omega arith in λ i. record { place = none i; slack = start .slack }
   left-by e f (suc k) =
@@ -57,11 +58,11 @@ module _ (s : Strides) (start : Cursor) (n long : ℕ) (some : 0 < n) (p : Place
       ∙ (λ i. record { place = one i; slack = start .slack })
 
   module _ (next : s .ahead + s .back ≡ 1) where
-    place-right : s .back ≡ 0 → (k : ℕ) → cursorAfter s start k .place ≡ start .place + k
-    place-right f k = ap (λ (c : Cursor). c .place) (right-by (omega arith) f k)
+    place-right : s .back ≡ 0 → (k : ℕ) → bresenhamAfter s start k .place ≡ start .place + k
+    place-right f k = ap (λ (c : Bresenham). c .place) (right-by (omega arith) f k)
 
-    place-left : (s .back ≡ 0 → ⊥) → (k : ℕ) → cursorAfter s start k .place ≡ start .place - k
-    place-left f k = ap (λ (c : Cursor). c .place) (left-by (back-one f .0) (back-one f .1) k)
+    place-left : (s .back ≡ 0 → ⊥) → (k : ℕ) → bresenhamAfter s start k .place ≡ start .place - k
+    place-left f k = ap (λ (c : Bresenham). c .place) (left-by (back-one f .0) (back-one f .1) k)
       where
         back-one : (s .back ≡ 0 → ⊥) → (s .ahead ≡ 0) × (s .back ≡ 1)
         back-one g = (omega (arith, g), omega (arith, g))
@@ -75,16 +76,16 @@ module _ (s : Strides) (start : Cursor) (n long : ℕ) (some : 0 < n) (p : Place
         at-last (suc (suc m)) h q = omega (arith, q .moves m (omega arith) .back-enough, place-left f m, next, f)
 
     pub fill-right : s .back ≡ 0 → (pen : Pen) (l m : List ℕ) → length l ≡ long → m ≡ filledRow pen n l (start .place)
-        → m ≡ inTurn (markAt pen s start) n l
+        → m ≡ inTurn (plotAt pen s start) n l
     fill-right f pen l m e g =
         let last : start .place + (n - 1) < long = rw (place-right f (n - 1)) at (p .inside (n - 1) (omega arith)) in
         g ∙ sym (filled-row pen n l (start .place) (omega arith))
         ∙ sym
-        (turn-agree (markAt pen s start) (λ k. mark pen (start .place + k)) n l (λ k h t. ap (λ (i : ℕ). mark pen i t) (place-right f k))
-        ∙ marks-sweep pen (λ k. start .place + k) n l)
+        (turn-agree (plotAt pen s start) (λ k. plot pen (start .place + k)) n l (λ k h t. ap (λ (i : ℕ). plot pen i t) (place-right f k))
+        ∙ plots-sweep pen (λ k. start .place + k) n l)
 
     pub fill-left : (s .back ≡ 0 → ⊥) → (pen : Pen) (l m : List ℕ) → length l ≡ long → m ≡ filledRow pen n l (start .place - (n - 1))
-        → m ≡ inTurn (markAt pen s start) n l
+        → m ≡ inTurn (plotAt pen s start) n l
     fill-left f pen l m e g =
         let room = left-room f in
         let first : start .place - 0 < long = rw (place-left f 0) at (p .inside 0 some) in
@@ -92,6 +93,6 @@ module _ (s : Strides) (start : Cursor) (n long : ℕ) (some : 0 < n) (p : Place
         g ∙ sym (filled-row pen n l (start .place - (n - 1)) (omega arith))
         ∙ ap (filled pen n l) at ∙ fill-turned-at pen n l (start .place + 1) (omega arith)
         ∙ sym
-        (turn-agree (markAt pen s start) (λ k. mark pen (start .place + 1 - (k + 1))) n l
-        (λ k h t. let same : start .place - k ≡ start .place + 1 - (k + 1) = omega arith in ap (λ (i : ℕ). mark pen i t) (place-left f k ∙ same))
-        ∙ marks-sweep pen (λ k. start .place + 1 - (k + 1)) n l)
+        (turn-agree (plotAt pen s start) (λ k. plot pen (start .place + 1 - (k + 1))) n l
+        (λ k h t. let same : start .place - k ≡ start .place + 1 - (k + 1) = omega arith in ap (λ (i : ℕ). plot pen i t) (place-left f k ∙ same))
+        ∙ plots-sweep pen (λ k. start .place + 1 - (k + 1)) n l)

@@ -6,5 +6,5 @@ pub mod Fitting
 pub mod Plots
 pub mod Courses
 pub mod Levels
-pub mod Inks
+pub mod Dashing
 pub mod Drawn

@@ -10,7 +10,7 @@ use lib.Dec.{ltb}
 use Rattle.lemmas.proofs.Booleans.{by-cases}
 use Rattle.geometry.specs.Line.{exact, distance, nearestOf}
 use Rattle.geometry.proofs.Lines.{Near, near, near-unique, below, le-of-not-lt, parts}
-use Rattle.strokes.specs.declared.tracing.Stepper.{Stepper}
+use Rattle.strokes.specs.declared.tracers.Stepper.{Stepper}
 use Rattle.strokes.specs.Tracers.{Up, Down, On, Room, stepped}
 
 -- a coordinate is at most the larger end's

@@ -15,8 +15,8 @@ use Rattle.strokes.specs.Strokes.{plotted, pixelsOf, Dashed, dash, dashP
 use Rattle.lemmas.specs.Turns.{inTurn}
 use Rattle.strokes.specs.Tracers.{On, pointOn, Traces, RoomBoth, traced, tracerAfter, Runs}
 use Rattle.strokes.specs.declared.Dashes.{Dashes}
-use Rattle.strokes.specs.declared.tracing.Stepper.{Stepper}
-use Rattle.strokes.specs.declared.tracing.Tracer.{Tracer}
+use Rattle.strokes.specs.declared.tracers.Stepper.{Stepper}
+use Rattle.strokes.specs.declared.tracers.Tracer.{Tracer}
 use Rattle.strokes.proofs.Terms.{on-nearest, on-next, on-room}
 
 within : (first k n steps : ℕ) → k < n → first + n ≤ steps + 1 → first + k ≤ steps

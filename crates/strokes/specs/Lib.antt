@@ -1,5 +1,5 @@
 pub mod Strokes
 pub mod Tracers
-pub mod Cursors
+pub mod Bresenham
 pub mod Spans
 pub mod Phases

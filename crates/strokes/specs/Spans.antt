@@ -1,4 +1,4 @@
--- The pixels of a line that a window lets through.
+-- The pixels of a line that are visible in a window.
 use mathlib.Core.Path.{_≡_}
 use mathlib.Core.Bool.{true}
 use Prim.Native.Nat.{ℕ, _+_, _*_, _≤_, _<_}
@@ -28,8 +28,8 @@ pub record Spans (n a b low high : ℕ) (s : Span) : Type 0 where
   pub inside : (i : ℕ) → i ≤ n → s .start ≤ i → i < s .end → (low ≤ nearestOf n i a b) × (nearestOf n i a b < high)
   pub only : (i : ℕ) → i ≤ n → low ≤ nearestOf n i a b → nearestOf n i a b < high → (s .start ≤ i) × (i < s .end)
 
--- Of n pixels from `first` on, the window lets through those of a span, and no others.
-pub record Seen (w : Window) (a b : Point) (first n : ℕ) (s : Span) : Type 0 where
+-- Of n pixels from `first` on, those of a span are visible in the window, and no others.
+pub record Visible (w : Window) (a b : Point) (first n : ℕ) (s : Span) : Type 0 where
   pub from-first : first ≤ s .start
   pub to-last : s .end ≤ first + n
   pub inside : (i : ℕ) → s .start ≤ i → i < s .end → inWindow w (linePoint a b i) ≡ true

@@ -15,9 +15,13 @@ use Rattle.registers.specs.Patterns.{patternBit, nextOf}
 use Rattle.registers.specs.declared.dashes.Pattern.{Pattern}
 use Rattle.strokes.specs.declared.Dashes.{Dashes}
 
--- One pixel, where the window lets it through.
+-- One byte of the buffer, drawn with a pen.
+abbrev pub plot : Pen → ℕ → List ℕ → List ℕ
+plot pen place l = set l place (drawn pen (getD l place 0))
+
+-- One pixel, where it is visible in the window.
 unfoldable pub plotted : ℕ → Window → Pen → Point → List ℕ → List ℕ
-plotted width w pen p l = cond (inWindow w p) (set l (placeIn width p) (drawn pen (getD l (placeIn width p) 0))) l
+plotted width w pen p l = cond (inWindow w p) (plot pen (placeIn width p) l) l
 
 -- n pixels from pixel `first` on.
 unfoldable pub pixelsOf : ℕ → Window → Pen → Point → Point → ℕ → ℕ → List ℕ → List ℕ
@@ -49,7 +53,7 @@ abbrev pub dashed : List ℕ → Pattern → Dashed
 dashed l q = record { buffer = l; pattern = q }
 
 -- One pixel of a dashed line: the pattern's bit chooses the pen, a 0 bit draws nothing where the dashes are clear, and the
--- pattern moves, let through or not (02, R-1).
+-- pattern moves, whether the pixel is visible or not (02, R-1).
 unfoldable pub dash : ℕ → Window → Dashes → Point → Dashed → Dashed
 dash width w d p s =
     record {

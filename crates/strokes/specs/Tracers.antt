@@ -9,8 +9,8 @@ use Rattle.geometry.specs.Line.{exact, distance, stepsOf, linePoint}
 use Rattle.geometry.specs.declared.Point.{Point}
 use Rattle.geometry.specs.declared.Window.{Window}
 use Rattle.lemmas.specs.Turns.{inTurn}
-use Rattle.strokes.specs.declared.tracing.Stepper.{Stepper}
-use Rattle.strokes.specs.declared.tracing.Tracer.{Tracer}
+use Rattle.strokes.specs.declared.tracers.Stepper.{Stepper}
+use Rattle.strokes.specs.declared.tracers.Tracer.{Tracer}
 
 -- Upward the term is 2(E - nv) + n - 1, downward 2(nv - E) + n.
 pub record Up (n e a b : ℕ) (g : Stepper) : Type 0 where
@@ -81,7 +81,7 @@ tracerAfter t k = inTurn (λ _. traced) k t
 abbrev pub Runs : Tracer → ℕ → Type 0
 Runs t n = (k : ℕ) → k < n → RoomBoth (tracerAfter t k)
 
--- Where a window lets through both ends of a stretch of a line, it lets through all of it; proved in proofs/Between.antt.
+-- Where both ends of a stretch of a line are visible in a window, all of it is; proved in proofs/Between.antt.
 abbrev pub Between : Type 0
 Between =
     (w : Window) (a b : Point) (i k j : ℕ) → i ≤ k → k ≤ j → j ≤ stepsOf a b

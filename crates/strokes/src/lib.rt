@@ -4,15 +4,15 @@ ghost use Prim.Native.Nat.{_-_};
 ghost use Rattle.geometry.specs.Coordinates.{pointOf};
 ghost use Rattle.strokes.specs.Strokes.{windowFits, strokeFits, strokeOf, dashed, dashesOf};
 
-mod cursors;
+mod bresenham;
 mod phases;
 mod spans;
-mod tracing;
+mod tracers;
 
-use crate::cursors::dash_shown;
-use crate::cursors::draw_shown;
-use crate::spans::seen_of;
-use crate::tracing::tracer_at;
+use crate::bresenham::dash_visible;
+use crate::bresenham::draw_visible;
+use crate::spans::visible_span;
+use crate::tracers::tracer_at;
 use entries::PatternControl;
 use geometry::ORIGIN;
 use geometry::Window;
@@ -86,12 +86,12 @@ pub fn draw_line(
     if !stroke_fits(width, window, from, to, first, n, buffer.len()) {
         return;
     }
-    let seen = seen_of(window, from, to, first, n);
-    if seen.end <= seen.start {
+    let visible = visible_span(window, from, to, first, n);
+    if visible.end <= visible.start {
         return;
     }
-    let tracer = tracer_at(from, to, seen.start);
-    draw_shown(buffer, width, pen, tracer, seen.end - seen.start);
+    let tracer = tracer_at(from, to, visible.start);
+    draw_visible(buffer, width, pen, tracer, visible.end - visible.start);
 }
 
 // The same in dashes, from a pattern state to the one after them. Where pixels are hidden the pattern moves in one go.
@@ -112,19 +112,19 @@ pub fn draw_dashes(
         return start;
     }
     let control = dashes.control;
-    let seen = seen_of(window, from, to, first, n);
-    if seen.end <= seen.start {
+    let visible = visible_span(window, from, to, first, n);
+    if visible.end <= visible.start {
         return start.after(control, n as u32);
     }
-    let entering = start.after(control, (seen.start - first) as u32);
-    let tracer = tracer_at(from, to, seen.start);
-    let leaving = dash_shown(
+    let entering = start.after(control, (visible.start - first) as u32);
+    let tracer = tracer_at(from, to, visible.start);
+    let leaving = dash_visible(
         buffer,
         width,
         dashes,
         entering,
         tracer,
-        seen.end - seen.start,
+        visible.end - visible.start,
     );
-    leaving.after(control, (first + n - seen.end) as u32)
+    leaving.after(control, (first + n - visible.end) as u32)
 }

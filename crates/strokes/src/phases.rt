@@ -87,7 +87,7 @@ pub(crate) fn back_pen(d: Dashes) -> Pen
 }
 
 // The new byte, by two pens of which the lowest bit chooses one.
-pub(crate) fn ink(keep: &[u8; 2], flip: &[u8; 2], bits: usize, old: u8) -> u8
+pub(crate) fn draw_bit(keep: &[u8; 2], flip: &[u8; 2], bits: usize, old: u8) -> u8
     ensures { λ r. ⌜ r ≡ bitXor (bitAnd old (getD (now (keep .entry)) (bits % 2) 0)) (getD (now (flip .entry)) (bits % 2) 0) ⌝ }
 {
     let bit = bits % 2;

@@ -1,10 +1,10 @@
-// The pixels of a line that a window lets through: one stretch, found by divisions.
+// The pixels of a line that are visible in a window: one stretch, found by divisions.
 ghost use mathlib.Core.Path.{_≡_};
 ghost use Prim.Native.Nat.{_+_, _-_, _≤_, _<_, min, max};
 ghost use Rattle.geometry.specs.Coordinates.{pointOf};
 ghost use Rattle.geometry.specs.Clip.{inWindow};
 ghost use Rattle.geometry.specs.Line.{distance, stepsOf};
-ghost use Rattle.strokes.specs.Spans.{Counts, Below, AtLeast, Spans, Seen};
+ghost use Rattle.strokes.specs.Spans.{Counts, Below, AtLeast, Spans, Visible};
 use geometry::Point;
 use geometry::Window;
 use geometry::line_steps;
@@ -82,22 +82,22 @@ fn smaller(a: usize, b: usize) -> usize
     if a <= b { a } else { b }
 }
 
-// Whether a window lets a point through.
-fn shown(w: Window, p: Point) -> bool
+// Whether a point is visible in a window.
+fn visible(w: Window, p: Point) -> bool
     ensures { λ r. ⌜ r ≡ inWindow w p ⌝ }
 {
     (w.left <= p.x) & (p.x < w.right) & (w.top <= p.y) & (p.y < w.bottom)
 }
 
-// Of n pixels of a line from pixel `first` on, those that a window lets through.
-pub(crate) fn seen_of(w: Window, from: u32, to: u32, first: usize, n: usize) -> Span
+// Of n pixels of a line from pixel `first` on, those that are visible in a window.
+pub(crate) fn visible_span(w: Window, from: u32, to: u32, first: usize, n: usize) -> Span
     requires { ⌜ (0 < stepsOf (pointOf from) (pointOf to)) × (first + n ≤ stepsOf (pointOf from) (pointOf to) + 1) ⌝ }
-    ensures { λ r. ⌜ Seen w (pointOf from) (pointOf to) first n r ⌝ }
+    ensures { λ r. ⌜ Visible w (pointOf from) (pointOf to) first n r ⌝ }
 {
     let a = point_of(from);
     let b = point_of(to);
     let last = first + n;
-    if shown(w, a) & shown(w, b) {
+    if visible(w, a) & visible(w, b) {
         return Span {
             start: first,
             end: last,

@@ -6,7 +6,7 @@ use borrow.Author.Needs.{needs}
 use lib.ListN.{length}
 use Rattle.geometry.specs.Coordinates.{pointOf}
 use Rattle.geometry.proofs.Lines.{steps-lt}
-use Rattle.strokes.proofs.Drawn.{Fit, fit-of, start-in, some-left, stretch-of, marked-dashes, hidden-dashes, dashes-fit, dashes-unfit}
+use Rattle.strokes.proofs.Drawn.{Fit, fit-of, start-in, some-left, stretch-of, visible-dashes, hidden-dashes, dashes-fit, dashes-unfit}
 use Rattle.strokes.proofs.draw_dashes.Statement.{statement}
 use Rattle.strokes.proofs.draw_dashes.Tie as tie
 
@@ -25,8 +25,8 @@ stroke-fits-requires c κs = search needs
 returns : tie.Need-returns
 returns c = dashes-unfit _ _ _ _ _ _ _ _ (sym (c .before .stroke-fits .ensures) ∙ not-true _ (c .if1 .taken))
 
-seen-of-requires : tie.Need-seen-of-requires
-seen-of-requires c κs = (fit (c .before) .steps-in, fit (c .before) .pixels-in)
+visible-span-requires : tie.Need-visible-span-requires
+visible-span-requires c κs = (fit (c .before) .steps-in, fit (c .before) .pixels-in)
 
 cast-after : tie.Need-cast-after
 cast-after c = omega (arith, few (c .before .before .before .before))
@@ -38,7 +38,7 @@ returns-2 : tie.Need-returns-2
 returns-2 c =
     let t = c .before in
     let q = t .before .before in
-    dashes-fit _ _ _ _ _ _ _ _ _ (fit (q .before .before) .whole) (hidden-dashes _ _ _ _ _ _ (q .seen-of .ensures) _ _ _ _ (t .if2 .taken) (c .after .ensures))
+    dashes-fit _ _ _ _ _ _ _ _ _ (fit (q .before .before) .whole) (hidden-dashes _ _ _ _ _ _ (q .visible-span .ensures) _ _ _ _ (t .if2 .taken) (c .after .ensures))
 
 sub-after : tie.Need-sub-after
 sub-after c = search needs
@@ -46,7 +46,7 @@ sub-after c = search needs
 cast-after-2 : tie.Need-cast-after-2
 cast-after-2 c =
     let q = c .before .before .before in
-    omega (arith, few (q .before .before), q .seen-of .ensures .to-last, c .before .if2 .left)
+    omega (arith, few (q .before .before), q .visible-span .ensures .to-last, c .before .if2 .left)
 
 after-requires-2 : tie.Need-after-requires-2
 after-requires-2 c κs = search needs
@@ -56,18 +56,18 @@ tracer-at-requires c κs =
     let e = c .before .before in
     let q = e .before .before in
     let f = fit (q .before .before) in
-    (f .steps-in, start-in _ _ _ _ _ _ (q .seen-of .ensures) (f .pixels-in) (e .if2 .left))
+    (f .steps-in, start-in _ _ _ _ _ _ (q .visible-span .ensures) (f .pixels-in) (e .if2 .left))
 
-sub-dash-shown : tie.Need-sub-dash-shown
-sub-dash-shown c = search needs
+sub-dash-visible : tie.Need-sub-dash-visible
+sub-dash-visible c = search needs
 
-dash-shown-requires : tie.Need-dash-shown-requires
-dash-shown-requires c κs =
+dash-visible-requires : tie.Need-dash-visible-requires
+dash-visible-requires c κs =
     let t = c .before .before in
     let e = t .before .before .before in
     let q = e .before .before in (
       some-left _ _ (e .if2 .left),
-      stretch-of _ _ _ _ _ _ _ _ _ (fit (q .before .before)) (q .seen-of .ensures) (e .if2 .left) (t .tracer-at .ensures),
+      stretch-of _ _ _ _ _ _ _ _ _ (fit (q .before .before)) (q .visible-span .ensures) (e .if2 .left) (t .tracer-at .ensures),
     )
 
 add-after : tie.Need-add-after
@@ -98,8 +98,8 @@ returns-3 c =
     let q = e .before .before in
     let f = fit (q .before .before) in
     dashes-fit _ _ _ _ _ _ _ _ _ (f .whole)
-    (marked-dashes _ _ _ _ _ _ (q .seen-of .ensures) _ (f .steps-in) (f .pixels-in) (e .if2 .left) (t .tracer-at .ensures) _ _ _ _ _ _
-    (m .after2 .ensures) (d .dash-shown .ensures) (c .after3 .ensures))
+    (visible-dashes _ _ _ _ _ _ (q .visible-span .ensures) _ (f .steps-in) (f .pixels-in) (e .if2 .left) (t .tracer-at .ensures) _ _ _ _ _ _
+    (m .after2 .ensures) (d .dash-visible .ensures) (c .after3 .ensures))
 
 pub draw-dashes-spec : {M : Type 1} → statement M
 draw-dashes-spec =
@@ -107,7 +107,7 @@ draw-dashes-spec =
     (tie.spec
     stroke-fits-requires
     returns
-    seen-of-requires
+    visible-span-requires
     cast-after
     after-requires
     returns-2
@@ -115,8 +115,8 @@ draw-dashes-spec =
     cast-after-2
     after-requires-2
     tracer-at-requires
-    sub-dash-shown
-    dash-shown-requires
+    sub-dash-visible
+    dash-visible-requires
     add-after
     sub-after-2
     cast-after-3

@@ -3,7 +3,7 @@ use borrow.Author.Tests.{not-true, not-false}
 use borrow.Author.Needs.{needs}
 use lib.ListN.{length}
 use Rattle.geometry.specs.Coordinates.{pointOf}
-use Rattle.strokes.proofs.Drawn.{Fit, fit-of, start-in, some-left, stretch-of, marked-pixels, hidden-pixels, stroke-fit, stroke-unfit}
+use Rattle.strokes.proofs.Drawn.{Fit, fit-of, start-in, some-left, stretch-of, visible-pixels, hidden-pixels, stroke-fit, stroke-unfit}
 use Rattle.strokes.proofs.draw_line.Statement.{statement}
 use Rattle.strokes.proofs.draw_line.Tie as tie
 
@@ -18,29 +18,29 @@ stroke-fits-requires c κs = search needs
 returns : tie.Need-returns
 returns c = stroke-unfit _ _ _ _ _ _ _ _ (sym (c .before .stroke-fits .ensures) ∙ not-true _ (c .if1 .taken))
 
-seen-of-requires : tie.Need-seen-of-requires
-seen-of-requires c κs = (fit c .steps-in, fit c .pixels-in)
+visible-span-requires : tie.Need-visible-span-requires
+visible-span-requires c κs = (fit c .steps-in, fit c .pixels-in)
 
 returns-2 : tie.Need-returns-2
 returns-2 c =
     let q = c .before .before in
-    stroke-fit _ _ _ _ _ _ _ _ _ (fit (q .before) .whole) (hidden-pixels _ _ _ _ _ _ (q .seen-of .ensures) _ _ _ (c .if2 .taken))
+    stroke-fit _ _ _ _ _ _ _ _ _ (fit (q .before) .whole) (hidden-pixels _ _ _ _ _ _ (q .visible-span .ensures) _ _ _ (c .if2 .taken))
 
 tracer-at-requires : tie.Need-tracer-at-requires
 tracer-at-requires c κs =
     let q = c .before .before in
     let f = fit (q .before) in
-    (f .steps-in, start-in _ _ _ _ _ _ (q .seen-of .ensures) (f .pixels-in) (c .if2 .left))
+    (f .steps-in, start-in _ _ _ _ _ _ (q .visible-span .ensures) (f .pixels-in) (c .if2 .left))
 
-sub-draw-shown : tie.Need-sub-draw-shown
-sub-draw-shown c = search needs
+sub-draw-visible : tie.Need-sub-draw-visible
+sub-draw-visible c = search needs
 
-draw-shown-requires : tie.Need-draw-shown-requires
-draw-shown-requires c κs =
+draw-visible-requires : tie.Need-draw-visible-requires
+draw-visible-requires c κs =
     let t = c .before .before in
     let e = t .before in
     let q = e .before .before in
-    (some-left _ _ (e .if2 .left), stretch-of _ _ _ _ _ _ _ _ _ (fit (q .before)) (q .seen-of .ensures) (e .if2 .left) (t .tracer-at .ensures))
+    (some-left _ _ (e .if2 .left), stretch-of _ _ _ _ _ _ _ _ _ (fit (q .before)) (q .visible-span .ensures) (e .if2 .left) (t .tracer-at .ensures))
 
 same-length : tie.Need-same-length
 same-length c = search needs
@@ -53,7 +53,7 @@ returns-3 c =
     let q = e .before .before in
     let f = fit (q .before) in
     stroke-fit _ _ _ _ _ _ _ _ _ (f .whole)
-    (marked-pixels _ _ _ _ _ _ (q .seen-of .ensures) _ (f .steps-in) (f .pixels-in) (e .if2 .left) (t .tracer-at .ensures) _ _ _ _ (d .draw-shown .ensures))
+    (visible-pixels _ _ _ _ _ _ (q .visible-span .ensures) _ (f .steps-in) (f .pixels-in) (e .if2 .left) (t .tracer-at .ensures) _ _ _ _ (d .draw-visible .ensures))
 
 pub draw-line-spec : {M : Type 1} → statement M
 draw-line-spec =
@@ -61,10 +61,10 @@ draw-line-spec =
     (tie.spec
     stroke-fits-requires
     returns
-    seen-of-requires
+    visible-span-requires
     returns-2
     tracer-at-requires
-    sub-draw-shown
-    draw-shown-requires
+    sub-draw-visible
+    draw-visible-requires
     same-length
     returns-3)

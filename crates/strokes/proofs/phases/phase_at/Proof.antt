@@ -3,7 +3,7 @@ use Prim.Native.Nat.{_^_}
 use native.Mathlib.Nat.{div-le-self}
 use native.Mathlib.Omega.{arith}
 use borrow.Author.Needs.{needs}
-use Rattle.strokes.proofs.Inks.{bits-past}
+use Rattle.strokes.proofs.Dashing.{bits-past}
 use Rattle.strokes.proofs.phases.phase_at.Statement.{statement}
 use Rattle.strokes.proofs.phases.phase_at.Tie as tie
 

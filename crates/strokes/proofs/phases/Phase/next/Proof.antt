@@ -1,6 +1,6 @@
 use native.Mathlib.Omega.{arith}
 use borrow.Author.Needs.{needs}
-use Rattle.strokes.proofs.Inks.{bits-first, bits-next, next-repeat, next-place, next-first}
+use Rattle.strokes.proofs.Dashing.{bits-first, bits-next, next-repeat, next-place, next-first}
 use Rattle.strokes.proofs.phases.Phase.next.Statement.{statement}
 use Rattle.strokes.proofs.phases.Phase.next.Tie as tie
 

@@ -1,0 +1,88 @@
+use Prim.Native.Nat.{_+_}
+use native.Mathlib.Omega.{arith}
+use borrow.Author.Needs.{needs}
+use lib.ListN.{length}
+use Rattle.strokes.specs.Bresenham.{Places}
+use Rattle.strokes.proofs.Courses.{first-room, first-above, places, stride-sum, plots-on}
+use Rattle.strokes.proofs.Levels.{level-test}
+use Rattle.strokes.proofs.bresenham.draw_visible.Statement.{statement}
+use Rattle.strokes.proofs.bresenham.draw_visible.Tie as tie
+
+held : (c : tie.After-course-of)
+    → let a = c .before .before .args in
+    let r = c .course-of .result in
+    Places (r .strides) (r .start) (a .n) (length (a .buffer .now))
+held c =
+    let p = c .before .before .pre in
+    rw (c .course-of .ensures) (places _ _ _ _ (p .1) (p .0) (search needs))
+
+course-of-requires : tie.Need-course-of-requires
+course-of-requires c κs =
+    let p = c .before .pre in
+    (first-room _ _ (p .0) (p .1 .runs), first-above _ _ _ _ (p .1) (p .0))
+
+add-if1 : tie.Need-add-if1
+add-if1 c =
+    let o = c .before .before .before in
+    let p = o .before .before .pre in
+    omega (arith, stride-sum _ _ _ (o .course-of .ensures) (first-room _ _ (p .0) (p .1 .runs)) (search needs))
+
+fill-places-requires : tie.Need-fill-places-requires
+fill-places-requires c κs =
+    let o = c .before .before .before .before .before in
+    let s = o .course-of .result .strides in
+    let t = level-test (s .growth) (s .ahead + s .back) (c .before .if1 .taken) in
+    (o .before .before .pre .0, held o, t .0, t .1)
+
+same-length : tie.Need-same-length
+same-length c = search needs
+
+returns : tie.Need-returns
+returns c =
+    let d = c .before .before in
+    let o = d .before .before .before .before .before .before in
+    plots-on _ _ _ _ (o .before .before .pre .1) _ _ _ (rw (o .course-of .ensures) at (d .fill-places .ensures))
+
+store-places-requires : tie.Need-store-places-requires
+store-places-requires c κs =
+    let o = c .before .before .before .before .before .before .before in
+    (o .before .before .pre .0, held o, c .before .if2 .taken)
+
+same-length-2 : tie.Need-same-length-2
+same-length-2 c = search needs
+
+returns-2 : tie.Need-returns-2
+returns-2 c =
+    let d = c .before .before in
+    let o = d .before .before .before .before .before .before .before .before in
+    plots-on _ _ _ _ (o .before .before .pre .1) _ _ _ (rw (o .course-of .ensures) at (d .store-places .ensures))
+
+draw-places-requires : tie.Need-draw-places-requires
+draw-places-requires c κs =
+    let o = c .before .before .before .before .before .before .before in
+    (o .before .before .pre .0, held o)
+
+same-length-3 : tie.Need-same-length-3
+same-length-3 c = search needs
+
+returns-3 : tie.Need-returns-3
+returns-3 c =
+    let d = c .before .before in
+    let o = d .before .before .before .before .before .before .before .before in
+    plots-on _ _ _ _ (o .before .before .pre .1) _ _ _ (rw (o .course-of .ensures) at (d .draw-places .ensures))
+
+pub draw-visible-spec : {M : Type 1} → statement M
+draw-visible-spec =
+    tie.close
+    (tie.spec
+    course-of-requires
+    add-if1
+    fill-places-requires
+    same-length
+    returns
+    store-places-requires
+    same-length-2
+    returns-2
+    draw-places-requires
+    same-length-3
+    returns-3)

@@ -1,0 +1,99 @@
+use Prim.Native.Nat.{_-_, _*_, _<_}
+use native.Mathlib.Omega.{arith}
+use borrow.Author.Needs.{needs}
+use Rattle.geometry.specs.Line.{exact}
+use Rattle.geometry.proofs.Lines.{product-lt}
+use Rattle.strokes.proofs.Terms.{Whole, whole, starts-up, starts-down}
+use Rattle.strokes.proofs.tracers.stepper_at.Statement.{statement}
+use Rattle.strokes.proofs.tracers.stepper_at.Tie as tie
+
+few : (c : tie.Start) → let a = c .args in ((a .n - a .i) * a .a < 8589934592) × (a .i * a .b < 8589934592)
+few c = (product-lt _ _ (omega arith) (omega arith), product-lt _ _ (omega arith) (omega arith))
+
+cut : (c : tie.Start) → let a = c .args in Whole (a .n) (exact (a .n) (a .i) (a .a) (a .b))
+cut c = let a = c .args in whole (a .n) (exact (a .n) (a .i) (a .a) (a .b)) (c .pre .0)
+
+sub-e : tie.Need-sub-e
+sub-e c = search needs
+
+mul-e : tie.Need-mul-e
+mul-e c = omega (arith, few c)
+
+mul-e-2 : tie.Need-mul-e-2
+mul-e-2 c = omega (arith, few c)
+
+add-e : tie.Need-add-e
+add-e c = omega (arith, few c)
+
+mul-t : tie.Need-mul-t
+mul-t c = omega (arith, few c)
+
+add-t : tie.Need-add-t
+add-t c = omega (arith, few c)
+
+sub-t : tie.Need-sub-t
+sub-t c = search needs
+
+mul-m : tie.Need-mul-m
+mul-m c = search needs
+
+div-v : tie.Need-div-v
+div-v c = search needs
+
+mul-t14 : tie.Need-mul-t14
+mul-t14 c = omega (arith, few (c .before), cut (c .before))
+
+sub-t15 : tie.Need-sub-t15
+sub-t15 c = omega (arith, cut (c .before))
+
+mul-t17 : tie.Need-mul-t17
+mul-t17 c = search needs
+
+mul-t18 : tie.Need-mul-t18
+mul-t18 c = omega (arith, few (c .before), cut (c .before))
+
+add-t19 : tie.Need-add-t19
+add-t19 c = omega (arith, few (c .before), cut (c .before))
+
+mul-t20 : tie.Need-mul-t20
+mul-t20 c = omega (arith, few (c .before))
+
+sub-t21 : tie.Need-sub-t21
+sub-t21 c = omega (arith, cut (c .before))
+
+sub-t22 : tie.Need-sub-t22
+sub-t22 c = search needs
+
+mul-t23 : tie.Need-mul-t23
+mul-t23 c = search needs
+
+returns : tie.Need-returns
+returns c = starts-up _ _ _ _ (c .before .pre .0) (omega arith) (c .if1 .taken)
+
+returns-2 : tie.Need-returns-2
+returns-2 c = starts-down _ _ _ _ (c .before .pre .0) (omega arith) (omega arith)
+
+pub stepper-at-spec : {M : Type 1} → statement M
+stepper-at-spec =
+    tie.close
+    (tie.spec
+    sub-e
+    mul-e
+    mul-e-2
+    add-e
+    mul-t
+    add-t
+    sub-t
+    mul-m
+    div-v
+    mul-t14
+    sub-t15
+    mul-t17
+    mul-t18
+    add-t19
+    mul-t20
+    sub-t21
+    sub-t22
+    mul-t23
+    returns
+    returns-2)
