@@ -9,18 +9,13 @@ use native.Mathlib.Nat.{add-mul, one-mul, mul-one, mul-le-mul, mul-le-mul-right}
 use native.Mathlib.Omega.{arith}
 use borrow.Author.Tests.{eqb-true, eq-eqb, ne-eqb, lt-ltb, le-ltb, ltb-true, ltb-false}
 use lib.Dec.{eqb, ltb}
-use lib.ListN.{getD, set}
 use Rattle.lemmas.proofs.Booleans.{by-cases}
-use Rattle.raster.specs.Selectors.{drawn}
 use Rattle.raster.specs.declared.Pen.{Pen}
 use Rattle.geometry.specs.Coordinates.{origin}
-use Rattle.registers.specs.Patterns.{patternBit, nextOf}
-use Rattle.registers.specs.declared.dashes.Pattern.{Pattern}
 use Rattle.geometry.specs.Clip.{placeIn}
-use Rattle.strokes.specs.Strokes.{plot, Dashed, dashed}
+use Rattle.strokes.specs.Strokes.{plot, Dashed}
 use Rattle.lemmas.specs.Turns.{inTurn}
 use Rattle.strokes.specs.Tracers.{Room, stepped, pointOn, RoomBoth, traced, tracerAfter, Runs}
-use Rattle.strokes.specs.Phases.{dashPen}
 use Rattle.strokes.specs.Bresenham.{moved, Moves, bresenhamAfter, courseBy, courseOf, Places, Above, plotDash, plotAt, plotDashAt, plotOn, plotDashOn, Stretch}
 use Rattle.strokes.specs.declared.Dashes.{Dashes}
 use Rattle.strokes.specs.declared.tracers.Stepper.{Stepper}
@@ -28,8 +23,7 @@ use Rattle.strokes.specs.declared.tracers.Tracer.{Tracer}
 use Rattle.strokes.specs.declared.bresenham.Bresenham.{Bresenham}
 use Rattle.strokes.specs.declared.bresenham.Strides.{Strides}
 use Rattle.strokes.specs.declared.bresenham.Course.{Course}
-use Rattle.lemmas.proofs.Turns.{turn-none, turn-more, turn-agree}
-use Rattle.strokes.proofs.Plots.{flat-drawn, clear-plot, chosen-draws}
+use Rattle.lemmas.proofs.Turns.{turn-none, turn-agree}
 
 -- a coordinate's step, in places
 module _ (c up down m r : ℕ) (here : origin ≤ c) (there : origin ≤ c + up - down) where
@@ -285,34 +279,3 @@ module _ (width : ℕ) (t : Tracer) (n long : ℕ) (s : Stretch width t n long) 
   plot-dashes-on d o r e =
       e ∙ turn-agree (plotDashAt d (courseOf width t .strides) (courseOf width t .start)) (plotDashOn width d t) n o
       (λ k h b. ap (λ (i : ℕ). plotDash d i b) (place-on k h))
-
--- one more pixel of a loop
-module _ (s : Strides) (start c : Bresenham) (j : ℕ) (at : c ≡ bresenhamAfter s start j) where
-  here : c .place ≡ bresenhamAfter s start j .place
-  here = ap (λ (q : Bresenham). q .place) at
-
-  pub plot-more : (pen : Pen) (l₀ l : List ℕ) (new : ℕ) → l ≡ inTurn (plotAt pen s start) j l₀
-      → new ≡ drawn pen (getD l (c .place) 0) → set l (c .place) new ≡ inTurn (plotAt pen s start) (j + 1) l₀
-  plot-more pen l₀ l new e f =
-      turn-more (plotAt pen s start) l₀ j l (set l (c .place) new) e
-      (ap (λ (b : ℕ). set l (c .place) b) f ∙ ap (λ (i : ℕ). plot pen i l) here)
-
-  pub store-more : (pen : Pen) (l₀ l : List ℕ) → pen .keep ≡ 0 → l ≡ inTurn (plotAt pen s start) j l₀
-      → set l (c .place) (pen .flip) ≡ inTurn (plotAt pen s start) (j + 1) l₀
-  store-more pen l₀ l h e = plot-more pen l₀ l (pen .flip) e (flat-drawn pen (getD l (c .place) 0) h)
-
-  pub plot-dash-more : (d : Dashes) (o b r : Dashed) → b ≡ inTurn (plotDashAt d s start) j o → r ≡ plotDash d (c .place) b
-      → r ≡ inTurn (plotDashAt d s start) (j + 1) o
-  plot-dash-more d o b r e f = turn-more (plotDashAt d s start) o j b r e (f ∙ ap (λ (i : ℕ). plotDash d i b) here)
-
-  pub state-more : (u : Bresenham) → u ≡ moved s c → u ≡ bresenhamAfter s start (j + 1)
-  state-more u f = turn-more (λ _. moved s) start j c u at f
-
-pub plot-dash-of : (d : Dashes) (place : ℕ) (l : List ℕ) (q r : Pattern) (pen : Pen) (new : ℕ)
-    → ((k : ℕ) → getD l k 0 < 256) → pen ≡ dashPen d q → new ≡ drawn pen (getD l place 0) → r ≡ nextOf (d .control) q
-    → dashed (set l place new) r ≡ plotDash d place (dashed l q)
-unfolding plotDash
-plot-dash-of d place l q r pen new h e f g =
-    let draw : Pen → List ℕ = λ k. plot k place l in
-    let drew = ap (set l place) f ∙ ap draw e ∙ chosen-draws (patternBit (d .lpat) q) (d .clear) (d .fore) (d .back) draw l (clear-plot place l (h place)) in
-    λ i. dashed (drew i) (g i)

@@ -12,18 +12,17 @@ use lib.Bits.{bitAnd, bitXor}
 use lib.Dec.{eqb}
 use lib.ListN.{getD, set}
 use lib.Pow.{pow-mono}
-use Rattle.lemmas.specs.Turns.{inTurn}
 use Rattle.raster.specs.Selectors.{drawn}
 use Rattle.raster.specs.declared.Pen.{Pen}
 use Rattle.entries.specs.declared.fields.PatternControl.{PatternControl}
 use Rattle.registers.specs.Patterns.{patternBit, nextOf}
 use Rattle.registers.specs.declared.dashes.Pattern.{Pattern}
-use Rattle.strokes.specs.Strokes.{Dashed, dashed}
+use Rattle.strokes.specs.Strokes.{plot, dashed}
 use Rattle.strokes.specs.Bresenham.{plotDash}
 use Rattle.strokes.specs.Phases.{patternOf, Holds, backPen, dashPen}
 use Rattle.strokes.specs.declared.Dashes.{Dashes}
 use Rattle.strokes.specs.declared.phases.Phase.{Phase}
-use Rattle.strokes.proofs.Courses.{plot-dash-of}
+use Rattle.strokes.proofs.Plots.{clear-plot, chosen-draws}
 
 -- the bits at the first place, at the next one, and past the last bit
 pub bits-first : (lpat : ℕ) → lpat ≡ lpat / 2 ^ 0
@@ -50,6 +49,15 @@ module _ (c : PatternControl) (q : Pattern) where
   unfolding nextOf
   next-first h l = rw (le-ltb (q .repeat + 1) (c .scale) h, le-ltb (q .place + 1) (c .length) l)
 
+plot-dash-of : (d : Dashes) (place : ℕ) (l : List ℕ) (q r : Pattern) (pen : Pen) (new : ℕ)
+    → ((k : ℕ) → getD l k 0 < 256) → pen ≡ dashPen d q → new ≡ drawn pen (getD l place 0) → r ≡ nextOf (d .control) q
+    → dashed (set l place new) r ≡ plotDash d place (dashed l q)
+unfolding plotDash
+plot-dash-of d place l q r pen new h e f g =
+    let draw : Pen → List ℕ = λ k. plot k place l in
+    let drew = ap (set l place) f ∙ ap draw e ∙ chosen-draws (patternBit (d .lpat) q) (d .clear) (d .fore) (d .back) draw l (clear-plot place l (h place)) in
+    λ i. dashed (drew i) (g i)
+
 chosen : (k old : ℕ) (fore back : Pen) → k < 2
     → bitXor (bitAnd old (getD (back .keep ∷ fore .keep ∷ []) k 0)) (getD (back .flip ∷ fore .flip ∷ []) k 0)
     ≡ drawn (cond (eqb k 1) fore back) old
@@ -68,7 +76,3 @@ plot-dash-by d place l p r back new h held e f g =
     (f ∙ chosen (p .bits % 2) (getD l place 0) (d .fore) back (mod-lt (p .bits) (omega arith))
     ∙ rw (e, held .bits-are) refl)
     g
-
-pub from-state : (f : ℕ → Dashed → Dashed) (n : ℕ) (l : List ℕ) (q p : Pattern) (r : Dashed) → q ≡ p → r ≡ inTurn f n (dashed l q)
-    → r ≡ inTurn f n (dashed l p)
-from-state f n l q p r e g = g ∙ ap (λ (o : Pattern). inTurn f n (dashed l o)) e

@@ -7,4 +7,5 @@ pub mod Plots
 pub mod Courses
 pub mod Levels
 pub mod Dashing
+pub mod Loops
 pub mod Drawn

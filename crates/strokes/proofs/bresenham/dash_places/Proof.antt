@@ -1,26 +1,22 @@
-use mathlib.Core.Path.{_≡_, refl, _∙_}
-use Prim.Native.Nat.{_+_, _-_, _≤_, _<_}
+-- `strokes::bresenham::dash_places` meets its contract. The loop's invariant, `PlottingDashes`: after j pixels the state is
+-- the course's, buffer and pattern state are j pixels of the dashed line on, and the phase holds LPAT's bits from its place
+-- on; `plotting-dashes-turn` gives a turn. The measure is what is left of `last`. The last pixel comes after the loop
+-- (`plotting-dashes-end`), since the state need not have a next one.
+-- Assumes nothing.
+use mathlib.Core.Path.{_∙_}
+use Prim.Native.Nat.{_-_, _<_}
 use native.Mathlib.Omega.{arith}
 use borrow.Author.Needs.{needs}
 use borrow.Author.Count.{falls}
-use lib.ListN.{length, length-set}
-use Rattle.lemmas.specs.Turns.{inTurn}
-use Rattle.strokes.specs.Strokes.{dashed}
-use Rattle.strokes.specs.Bresenham.{bresenhamAfter, Moves, plotDashAt}
-use Rattle.strokes.specs.Phases.{patternOf, Holds}
-use Rattle.lemmas.proofs.Turns.{turn-none, turn-end}
-use Rattle.strokes.proofs.Courses.{plot-dash-more, state-more}
-use Rattle.strokes.proofs.Dashing.{plot-dash-by, from-state}
+use lib.ListN.{length}
+use Rattle.strokes.specs.Phases.{patternOf}
+use Rattle.strokes.proofs.Loops.{place-inside, can-move, PlottingDashes, plotting-dashes-start, plotting-dashes-turn, plotting-dashes-end}
 use Rattle.strokes.proofs.bresenham.dash_places.Statement.{statement}
 use Rattle.strokes.proofs.bresenham.dash_places.Tie as tie
 
 abbrev Inv-loop : tie.InvT-loop
 Inv-loop buffer₀ dashes s n keep flip last phase₀ state₀ j₀ buffer phase state j =
-    (j ≤ last)
-    × (length buffer ≡ length buffer₀)
-    × (dashed buffer (patternOf phase) ≡ inTurn (plotDashAt dashes s state₀) j (dashed buffer₀ (patternOf phase₀)))
-    × (state ≡ bresenhamAfter s state₀ j)
-    × Holds (dashes .lpat) phase
+    PlottingDashes dashes s state₀ last buffer₀ (patternOf phase₀) buffer phase state j
 
 abbrev μ-loop : tie.MeasureT-loop
 μ-loop buffer₀ dashes s n keep flip last phase₀ state₀ j₀ buffer phase state j = last - j
@@ -28,13 +24,7 @@ abbrev μ-loop : tie.MeasureT-loop
 inside : (c : tie.At-loop Inv-loop μ-loop)
     → let l = c .loop in
     l .j < c .before .before .before .before .before .args .n → l .state .place < length (l .buffer)
-inside c h = let l = c .loop in rw (l .inv .1, l .inv .3) (c .before .before .before .before .before .pre .1 .inside (l .j) h)
-
-moves : (c : tie.In-loop Inv-loop μ-loop)
-    → Moves (c .before .before .before .before .before .before .args .s) (c .before .loop .state)
-moves c =
-    let l = c .before .loop in
-    rw (l .inv .3) (c .before .before .before .before .before .before .pre .1 .moves (l .j) (omega (arith, c .loop-test .taken)))
+inside c h = place-inside (c .before .before .before .before .before .pre .1) (c .loop .inv .reached) h
 
 back-pen-requires : tie.Need-back-pen-requires Inv-loop μ-loop
 back-pen-requires c κs = search needs
@@ -46,7 +36,7 @@ phase-at-requires : tie.Need-phase-at-requires Inv-loop μ-loop
 phase-at-requires c κs = search needs
 
 loop-holds : tie.Need-loop-holds Inv-loop μ-loop
-loop-holds c = (omega arith, refl, turn-none _ _, turn-none _ _, c .phase-at .ensures .1)
+loop-holds c = plotting-dashes-start _ _ _ _ _ _ (c .phase-at .ensures .1)
 
 slice-read-draw-bit : tie.Need-slice-read-draw-bit Inv-loop μ-loop
 slice-read-draw-bit c = let o = c .before .before .before in inside (o .before) (omega (arith, o .loop-test .taken))
@@ -58,10 +48,13 @@ slice-write-buffer : tie.Need-slice-write-buffer Inv-loop μ-loop
 slice-write-buffer c = let o = c .before .before .before .before in inside (o .before) (omega (arith, o .loop-test .taken))
 
 next-requires : tie.Need-next-requires Inv-loop μ-loop
-next-requires c κs = c .before .before .before .before .before .loop .inv .4
+next-requires c κs = c .before .before .before .before .before .loop .inv .holds
 
 next-by-axis-requires : tie.Need-next-by-axis-requires Inv-loop μ-loop
-next-by-axis-requires c κs = moves (c .before .before .before .before .before)
+next-by-axis-requires c κs =
+    let o = c .before .before .before .before .before in
+    let l = o .before in
+    can-move (l .before .before .before .before .before .pre .1) (l .loop .inv .reached) (omega (arith, o .loop-test .taken))
 
 add-j : tie.Need-add-j Inv-loop μ-loop
 add-j c = search needs
@@ -75,15 +68,9 @@ loop-again c =
     let i = p .before in
     let k = i .before in
     let o = k .before .before .before in
-    let l = o .before .loop in
-    let b = o .before .before .before in (
-      omega (arith, o .loop-test .taken),
-      simp length-set (l .inv .1),
-      plot-dash-more _ _ _ _ (l .inv .3) _ _ _ _ (l .inv .2)
-          (plot-dash-by _ _ _ _ _ _ _ (λ m. omega (arith, k .slice-known2 .given m)) (l .inv .4) (b .back-pen .ensures) (i .draw-bit .ensures) (p .next .ensures .0)),
-      state-more _ _ _ _ (l .inv .3) _ (c .next-by-axis .ensures),
-      p .next .ensures .1,
-    )
+    let l = o .before in
+    plotting-dashes-turn (l .loop .inv) (λ m. omega (arith, k .slice-known2 .given m)) (l .before .before .back-pen .ensures) (i .draw-bit .ensures)
+    (p .next .ensures) (o .loop-test .taken) (c .next-by-axis .ensures)
 
 slice-read-draw-bit-2 : tie.Need-slice-read-draw-bit-2 Inv-loop μ-loop
 slice-read-draw-bit-2 c = let o = c .before .before .before in inside (o .before) (omega (arith, o .loop-test .left))
@@ -95,7 +82,7 @@ slice-write-buffer-2 : tie.Need-slice-write-buffer-2 Inv-loop μ-loop
 slice-write-buffer-2 c = let o = c .before .before .before .before in inside (o .before) (omega (arith, o .loop-test .left))
 
 next-requires-2 : tie.Need-next-requires-2 Inv-loop μ-loop
-next-requires-2 c κs = c .before .before .before .before .before .loop .inv .4
+next-requires-2 c κs = c .before .before .before .before .before .loop .inv .holds
 
 pattern-requires : tie.Need-pattern-requires Inv-loop μ-loop
 pattern-requires c κs = c .next2 .ensures .1
@@ -109,13 +96,11 @@ returns c =
     let i = p .before in
     let k = i .before in
     let o = k .before .before .before in
-    let l = o .before .loop in
-    let a = o .before .before in
+    let l = o .before in
+    let a = l .before in
     let some = a .before .before .before .before .pre .0 in
-    from-state _ _ _ _ _ _ (a .phase-at .ensures .0)
-    (turn-end _ _ (l .j + 1) _ _ (omega (arith, l .inv .0, some)) (omega (arith, o .loop-test .left))
-    (plot-dash-more _ _ _ _ (l .inv .3) _ _ _ _ (l .inv .2)
-    (plot-dash-by _ _ _ _ _ _ _ (λ m. omega (arith, k .slice-known3 .given m)) (l .inv .4) (a .before .back-pen .ensures) (i .draw-bit2 .ensures) (c .pattern .ensures ∙ p .next2 .ensures .0))))
+    plotting-dashes-end (l .loop .inv) (λ m. omega (arith, k .slice-known3 .given m)) (a .before .back-pen .ensures) (i .draw-bit2 .ensures)
+    (c .pattern .ensures ∙ p .next2 .ensures .0) (o .loop-test .left) (omega (arith, some)) (a .phase-at .ensures .0)
 
 pub dash-places-spec : {M : Type 1} → statement M
 dash-places-spec =
