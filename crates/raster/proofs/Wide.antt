@@ -1,13 +1,11 @@
 -- Pens and selectors draw what the rule says of numbers of any size, of which the rule reads the low eight bits.
 -- Assumes nothing.
-use mathlib.Core.Path.{_≡_, ap, ap₂, sym, _∙_}
-use Prim.Native.Nat.{ℕ, _%_, _≤_, _<_, min}
-use native.Mathlib.Nat.{mod-eq-of-lt}
+use mathlib.Core.Path.{_≡_, ap, sym, _∙_}
+use Prim.Native.Nat.{ℕ, _%_, _<_, min}
 use native.Mathlib.Omega.{arith}
 use lib.Bits.{bitAnd, bitXor, and-le-r, xor-lt}
 use lib.Dec.{lit<}
 use Rattle.raster.specs.Raster.{bit, newBit, newByte}
-use Rattle.raster.specs.declared.Pen.{Pen}
 use Rattle.raster.specs.Selectors.{penOf, drawn, selectorsOf, selected}
 use Rattle.raster.proofs.Bits.{bit-and, byte-ext, same-bits, bit-low}
 use Rattle.raster.proofs.Rule.{newByte-lt, newByte-low}

@@ -5,7 +5,7 @@ use mathlib.Core.Bool.{Bool, true, false, cond}
 use Prim.Native.Nat.{ℕ, _<_}
 use native.Mathlib.Nat.{mod-eq-of-lt}
 use native.Mathlib.Omega.{arith}
-use lib.Bits.{bitAnd, bitXor, differ, and-zero-l, xor-zero-l, xor-zero-r, and-mask, and-lt, xor-lt}
+use lib.Bits.{bitAnd, bitXor, and-zero-l, xor-zero-l, xor-zero-r, and-mask, and-lt, xor-lt}
 use lib.Dec.{lit<}
 use Rattle.raster.specs.Raster.{bit}
 use Rattle.raster.specs.Selectors.{drawn}

@@ -21,7 +21,6 @@ use Rattle.strokes.specs.declared.Dashes.{Dashes}
 use Rattle.strokes.specs.declared.tracers.Stepper.{Stepper}
 use Rattle.strokes.specs.declared.tracers.Tracer.{Tracer}
 use Rattle.strokes.specs.declared.bresenham.Bresenham.{Bresenham}
-use Rattle.strokes.specs.declared.bresenham.Strides.{Strides}
 use Rattle.strokes.specs.declared.bresenham.Course.{Course}
 use Rattle.lemmas.proofs.Turns.{turn-none, turn-agree}
 
@@ -244,7 +243,7 @@ module _ (width : ℕ) (t : Tracer) (n long : ℕ) (s : Stretch width t n long) 
   at : (k : ℕ) → k < n → At width t k
   at k l = after width t k (λ j h. s .runs j (omega arith)) (s .major) (λ j h. above j (omega arith))
 
-  pub place-on : (k : ℕ) → k < n
+  place-on : (k : ℕ) → k < n
       → bresenhamAfter (courseOf width t .strides) (courseOf width t .start) k .place ≡ placeIn width (pointOn (tracerAfter t k))
   place-on k l = ap (λ (c : Bresenham). c .place) (at k l .start-is) ∙ place-is width (tracerAfter t k)
 

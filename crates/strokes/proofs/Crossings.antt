@@ -161,7 +161,7 @@ first-most f x y = omega arith
 last-least : (f x y : ℕ) → min (min f x) y ≤ f
 last-least f x y = omega arith
 
-pub visible-part : (w : Window) (a b : Point) (first n : ℕ) (x y : Span) → first + n ≤ stepsOf a b + 1
+visible-part : (w : Window) (a b : Point) (first n : ℕ) (x y : Span) → first + n ≤ stepsOf a b + 1
     → Spans (stepsOf a b) (a .x) (b .x) (w .left) (w .right) x → Spans (stepsOf a b) (a .y) (b .y) (w .top) (w .bottom) y
     → Visible w a b first n
     (record { start = max (max first (x .start)) (y .start); end = min (min (first + n) (x .end)) (y .end) })

@@ -104,7 +104,7 @@ module _ (w : Window) (a b : Point) (first n : ℕ) (s : Span) (visible : Visibl
     at : (k : ℕ) → k < s .end - s .start → pointOn (tracerAfter t k) ≡ linePoint a b (s .start + k)
     at k h = pixel a b (s .start) (s .end - s .start) t some on-line o k h
 
-    pub all-visible : (k : ℕ) → k < s .end - s .start → inWindow w (pointOn (tracerAfter t k)) ≡ true
+    all-visible : (k : ℕ) → k < s .end - s .start → inWindow w (pointOn (tracerAfter t k)) ≡ true
     all-visible k h = ap (inWindow w) (at k h) ∙ visible .inside (s .start + k) (omega arith) (omega arith)
 
     pub visible-pixels : (width : ℕ) (pen : Pen) (u m : List ℕ) → m ≡ inTurn (plotOn width pen t) (s .end - s .start) u

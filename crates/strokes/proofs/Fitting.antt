@@ -20,11 +20,11 @@ use Rattle.strokes.specs.Bresenham.{Placed}
 pub too-low : (width : ℕ) (w : Window) (long : ℕ) → origin + 65536 < w .bottom → false ≡ windowFits width w long
 too-low width w long h = rw (lt-leb (w .bottom) (origin + 65536) h) (simp and-false)
 
-pub record Fits (width : ℕ) (w : Window) (long : ℕ) : Type 0 where
-  pub left-in : origin ≤ w .left
-  pub right-in : w .right ≤ origin + width
-  pub top-in : origin ≤ w .top
-  pub rows-in : (w .bottom - origin) * width ≤ long
+record Fits (width : ℕ) (w : Window) (long : ℕ) : Type 0 where
+  left-in : origin ≤ w .left
+  right-in : w .right ≤ origin + width
+  top-in : origin ≤ w .top
+  rows-in : (w .bottom - origin) * width ≤ long
 
 five : (a b c d e : Bool) → (a && b && c && d && e) ≡ true → (a ≡ true) × (b ≡ true) × (c ≡ true) × (e ≡ true)
 five a b c d e h =

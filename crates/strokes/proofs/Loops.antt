@@ -12,7 +12,7 @@ use Rattle.raster.specs.Selectors.{drawn}
 use Rattle.raster.specs.declared.Pen.{Pen}
 use Rattle.registers.specs.Patterns.{nextOf}
 use Rattle.registers.specs.declared.dashes.Pattern.{Pattern}
-use Rattle.strokes.specs.Strokes.{plot, Dashed, dashed}
+use Rattle.strokes.specs.Strokes.{plot, dashed}
 use Rattle.strokes.specs.Bresenham.{moved, Moves, bresenhamAfter, Places, plotAt, plotDash, plotDashAt}
 use Rattle.strokes.specs.Phases.{patternOf, Holds, backPen}
 use Rattle.strokes.specs.declared.Dashes.{Dashes}

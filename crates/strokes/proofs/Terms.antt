@@ -22,7 +22,7 @@ nearest-below n i a b m some l p q =
     let le : v ≤ m - 1 = le-of-not-lt (λ g. omega (arith, near n i a b some, below n (m - 1) v g)) in
     omega arith
 
-pub exact-next : (n i a b : ℕ) → i < n → exact n (i + 1) a b + a ≡ exact n i a b + b
+exact-next : (n i a b : ℕ) → i < n → exact n (i + 1) a b + a ≡ exact n i a b + b
 exact-next n i a b l =
     let same : (n - i) * a ≡ (n - (i + 1) + 1) * a = ap (λ (k : ℕ). k * a) (omega arith) in
     omega (arith, same, add-mul (n - (i + 1)) 1 a, one-mul a, add-mul i 1 b, one-mul b)

@@ -28,13 +28,13 @@ traces-of a b p q n i x y e f g u v =
     record { along-x = rw (e, f, g) at u; along-y = rw (e, f, g) at v; full-is = ap (λ (k : ℕ). 2 * k) g }
 
 module _ (a b : Point) where
-  pub traces-point : (i : ℕ) (t : Tracer) → 0 < stepsOf a b → Traces a b i t → pointOn t ≡ linePoint a b i
+  traces-point : (i : ℕ) (t : Tracer) → 0 < stepsOf a b → Traces a b i t → pointOn t ≡ linePoint a b i
   traces-point i t some o =
       let x = on-nearest (stepsOf a b) i (a .x) (b .x) (t .x) (o .along-x) some in
       let y = on-nearest (stepsOf a b) i (a .y) (b .y) (t .y) (o .along-y) some in
       λ k. record { x = x k; y = y k }
 
-  pub traces-next : (i : ℕ) (t : Tracer) → i < stepsOf a b → Traces a b i t → Traces a b (i + 1) (traced t)
+  traces-next : (i : ℕ) (t : Tracer) → i < stepsOf a b → Traces a b i t → Traces a b (i + 1) (traced t)
   unfolding traced
   traces-next i t more o =
       let n = stepsOf a b in
@@ -44,7 +44,7 @@ module _ (a b : Point) where
         full-is = o .full-is;
       }
 
-  pub traces-after : (i : ℕ) (t : Tracer) (k : ℕ) → i + k ≤ stepsOf a b → Traces a b i t → Traces a b (i + k) (tracerAfter t k)
+  traces-after : (i : ℕ) (t : Tracer) (k : ℕ) → i + k ≤ stepsOf a b → Traces a b i t → Traces a b (i + k) (tracerAfter t k)
   unfolding inTurn
   traces-after i t zero l o = let none : i ≡ i + 0 = omega arith in subst (λ (j : ℕ). Traces a b j t) none o
   traces-after i t (suc k) l o =
@@ -52,7 +52,7 @@ module _ (a b : Point) where
       subst (λ (j : ℕ). Traces a b j (traced (tracerAfter t k))) one
       (traces-next (i + k) (tracerAfter t k) (omega arith) (traces-after i t k (omega arith) o))
 
-pub traces-room : (v w i : ℕ) (t : Tracer) → 0 < stepsOf (pointOf v) (pointOf w) → i ≤ stepsOf (pointOf v) (pointOf w)
+traces-room : (v w i : ℕ) (t : Tracer) → 0 < stepsOf (pointOf v) (pointOf w) → i ≤ stepsOf (pointOf v) (pointOf w)
     → Traces (pointOf v) (pointOf w) i t → RoomBoth t
 traces-room v w i t some l o =
     let n = stepsOf (pointOf v) (pointOf w) in

@@ -1,3 +1,7 @@
+-- `strokes::draw_dashes` meets its contract. What does not fit draws nothing (`dashes-unfit`). Where no pixel is visible,
+-- all move the pattern alone (`hidden-dashes`); else `dash_visible` plots the visible ones, and those before and after them
+-- move the pattern alone (`visible-dashes`).
+-- Assumes nothing.
 use mathlib.Core.Path.{sym, _∙_}
 use Prim.Native.Nat.{_+_, _≤_}
 use native.Mathlib.Omega.{arith}

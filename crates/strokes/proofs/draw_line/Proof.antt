@@ -1,3 +1,7 @@
+-- `strokes::draw_line` meets its contract. What does not fit draws nothing (`stroke-unfit`). Where no pixel is visible, all
+-- leave the buffer as it was (`hidden-pixels`); else `draw_visible` plots the visible ones, and those before and after them
+-- do nothing (`visible-pixels`).
+-- Assumes nothing.
 use mathlib.Core.Path.{sym, _∙_}
 use borrow.Author.Tests.{not-true, not-false}
 use borrow.Author.Needs.{needs}

@@ -1,3 +1,6 @@
+-- `strokes::stroke_fits` meets its contract. Two comparisons without a sum are the one with `first + n`, which might
+-- overflow (`sum-fits`).
+-- Assumes nothing.
 use mathlib.Core.Bool.{_&&_}
 use Prim.Native.Nat.{_+_}
 use lib.Dec.{ltb}

@@ -1,3 +1,6 @@
+-- `strokes::window_fits` meets its contract. A bottom that is too low fails one of its tests (`too-low`); else rows times
+-- width does not overflow (`rows-fit`), and the result is `windowFits` test by test.
+-- Assumes nothing.
 use native.Mathlib.Omega.{arith}
 use borrow.Author.Needs.{needs}
 use Rattle.strokes.proofs.Fitting.{too-low, rows-fit}

@@ -1,3 +1,6 @@
+-- `strokes::bresenham::course_by` meets its contract. `reach` bounds an axis' part of the place and its strides, so that no
+-- product and no sum overflows; the result is `courseBy` field by field.
+-- Assumes nothing.
 use mathlib.Core.Path.{refl}
 use native.Mathlib.Omega.{arith}
 use borrow.Author.Needs.{needs}

@@ -1,3 +1,6 @@
+-- `strokes::bresenham::course_of` meets its contract. Each return is the course along the major axis that the test found
+-- (`by-x`, `by-y`).
+-- Assumes nothing.
 use mathlib.Core.Path.{_∙_}
 use borrow.Author.Needs.{needs}
 use Rattle.strokes.proofs.Courses.{by-x, by-y}

@@ -1,3 +1,6 @@
+-- `strokes::bresenham::dash_visible` meets its contract. The course's places lie in the buffer (`places`) and are those of
+-- the tracer's pixels (`plot-dashes-on`).
+-- Assumes nothing.
 use borrow.Author.Needs.{needs}
 use Rattle.strokes.proofs.Courses.{first-room, first-above, places, plot-dashes-on}
 use Rattle.strokes.proofs.bresenham.dash_visible.Statement.{statement}

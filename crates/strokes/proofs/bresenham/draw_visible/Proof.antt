@@ -1,3 +1,6 @@
+-- `strokes::bresenham::draw_visible` meets its contract. The course's places lie in the buffer (`places`) and are those of
+-- the tracer's pixels, so that what each callee plots on the course is plotted at them (`plots-on`).
+-- Assumes nothing.
 use Prim.Native.Nat.{_+_}
 use native.Mathlib.Omega.{arith}
 use borrow.Author.Needs.{needs}

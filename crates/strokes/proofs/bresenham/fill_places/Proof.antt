@@ -1,3 +1,6 @@
+-- `strokes::bresenham::fill_places` meets its contract. Each place is one after the one before it, or one before it, so
+-- that the course is the row that `fill_row` fills, from its first place on (`fill-right`) or from its last (`fill-left`).
+-- Assumes nothing.
 use mathlib.Core.Path.{refl}
 use borrow.Author.Needs.{needs}
 use Rattle.strokes.proofs.Levels.{left-room, fill-right, fill-left}

@@ -1,3 +1,5 @@
+-- `strokes::phases::back_pen` meets its contract. Each return is what `backPen` picks by `clear`.
+-- Assumes nothing.
 use mathlib.Core.Path.{refl}
 use borrow.Author.Needs.{needs}
 use Rattle.strokes.proofs.Plots.{chosen-yes}

@@ -1,3 +1,6 @@
+-- `strokes::phases::phase_at` meets its contract. From place 32 on LPAT has no bit left (`bits-past`); below it the shift
+-- leaves those from the place on.
+-- Assumes nothing.
 use mathlib.Core.Path.{refl}
 use Prim.Native.Nat.{_^_}
 use native.Mathlib.Nat.{div-le-self}

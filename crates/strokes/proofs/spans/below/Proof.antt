@@ -1,3 +1,6 @@
+-- `strokes::spans::below` meets its contract. No pixel lies below c where the axis starts there or past it (`below-none`),
+-- each does where it ends below c (`below-all`), and between the two `count` counts them (`below-count`).
+-- Assumes nothing.
 use borrow.Author.Needs.{needs}
 use Rattle.strokes.proofs.Crossings.{below-none, below-all, below-count}
 use Rattle.strokes.proofs.spans.below.Statement.{statement}

@@ -1,3 +1,6 @@
+-- `strokes::spans::count` meets its contract. Along the major axis each pixel goes 2n, so that m + 1 of them go no further
+-- (`count-major`); else the quotient counts them (`count-minor`).
+-- Assumes nothing.
 use Prim.Native.Nat.{_+_, _*_, _<_}
 use native.Mathlib.Nat.{div-le-self}
 use native.Mathlib.Omega.{arith}

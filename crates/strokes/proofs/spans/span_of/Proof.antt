@@ -1,3 +1,6 @@
+-- `strokes::spans::span_of` meets its contract. On an axis that goes up the pixels between two borders are those below the
+-- one and not below the other (`spans-up`); on one that goes down the borders exchange (`spans-down`).
+-- Assumes nothing.
 use borrow.Author.Needs.{needs}
 use Rattle.strokes.proofs.Crossings.{spans-up, spans-down}
 use Rattle.strokes.proofs.spans.span_of.Statement.{statement}

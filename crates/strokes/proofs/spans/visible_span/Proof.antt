@@ -1,3 +1,6 @@
+-- `strokes::spans::visible_span` meets its contract. Where both ends are visible all pixels are (`visible-whole`); where no
+-- x lies in the window none is (`hidden-beside`); else those are whose x and y both do (`visible-by`).
+-- Assumes nothing.
 use borrow.Author.Needs.{needs}
 use Rattle.geometry.proofs.Whole.{x-within, y-within}
 use Rattle.geometry.proofs.Lines.{steps-lt}

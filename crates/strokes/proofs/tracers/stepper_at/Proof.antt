@@ -1,3 +1,6 @@
+-- `strokes::tracers::stepper_at` meets its contract. The quotient is the nearest coordinate and what the division leaves is
+-- the error term, up or down (`starts-up`, `starts-down`). `few` and `cut` bound the products.
+-- Assumes nothing.
 use Prim.Native.Nat.{_-_, _*_, _<_}
 use native.Mathlib.Omega.{arith}
 use borrow.Author.Needs.{needs}

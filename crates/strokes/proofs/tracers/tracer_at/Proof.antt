@@ -1,3 +1,6 @@
+-- `strokes::tracers::tracer_at` meets its contract. What `stepper_at` ensures for each axis, with points and steps written
+-- out, is `Traces` (`traces-of`); coordinates and steps are small enough for it (`x-within`, `y-within`, `steps-lt`).
+-- Assumes nothing.
 use native.Mathlib.Omega.{arith}
 use borrow.Author.Needs.{needs}
 use Rattle.geometry.proofs.Whole.{x-within, y-within}

@@ -1,3 +1,6 @@
+-- `strokes::bresenham::Bresenham::next` meets its contract. Each return is the case of `moved` that the test chose; that no
+-- difference goes below 0 is in `Moves`.
+-- Assumes nothing.
 use mathlib.Core.Path.{refl}
 use borrow.Author.Tests.{lt-ltb, le-ltb}
 use borrow.Author.Needs.{needs}

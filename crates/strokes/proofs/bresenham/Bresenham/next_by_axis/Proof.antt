@@ -1,3 +1,6 @@
+-- `strokes::bresenham::Bresenham::next_by_axis` meets its contract. Where nothing grows the slack stays and the place moves
+-- along the major axis alone (`on-level`); else it is `next`.
+-- Assumes nothing.
 use borrow.Author.Needs.{needs}
 use Rattle.strokes.proofs.Levels.{on-level}
 use Rattle.strokes.proofs.bresenham.Bresenham.next_by_axis.Statement.{statement}

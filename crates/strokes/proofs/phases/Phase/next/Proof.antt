@@ -1,3 +1,6 @@
+-- `strokes::phases::Phase::next` meets its contract. Each return is the case of `nextOf` that the two tests chose, and its
+-- bits are LPAT's from the new place on: those it had, those without the lowest (`bits-next`), or all (`bits-first`).
+-- Assumes nothing.
 use native.Mathlib.Omega.{arith}
 use borrow.Author.Needs.{needs}
 use Rattle.strokes.proofs.Dashing.{bits-first, bits-next, next-repeat, next-place, next-first}
