@@ -16,7 +16,7 @@ use Rattle.geometry.specs.Clip.{placeIn}
 use Rattle.strokes.specs.Strokes.{plot, Dashed}
 use Rattle.lemmas.specs.Turns.{inTurn}
 use Rattle.strokes.specs.Tracers.{Room, stepped, pointOn, RoomBoth, traced, tracerAfter, Runs}
-use Rattle.strokes.specs.Bresenham.{moved, Moves, bresenhamAfter, courseBy, courseOf, Places, Above, plotDash, plotAt, plotDashAt, plotOn, plotDashOn, Stretch}
+use Rattle.strokes.specs.Bresenham.{moved, Moves, bresenhamAfter, courseBy, courseOf, Places, FromOrigin, plotDash, plotAt, plotDashAt, plotOn, plotDashOn, Stretch}
 use Rattle.strokes.specs.declared.Dashes.{Dashes}
 use Rattle.strokes.specs.declared.tracers.Stepper.{Stepper}
 use Rattle.strokes.specs.declared.tracers.Tracer.{Tracer}
@@ -196,7 +196,7 @@ module _ (width : ℕ) (t : Tracer) where
       by-cases (eqb (t .x .growth) (t .full)) (λ h. rw (still h, h) (keeps-strides (t .x) (t .y) 1 width (t .full)))
       (λ h. rw (still h, h) (keeps-strides (t .y) (t .x) width 1 (t .full)))
 
-  start-moves : Major t → RoomBoth t → Above t → Above (traced t)
+  start-moves : Major t → RoomBoth t → FromOrigin t → FromOrigin (traced t)
       → courseOf width (traced t) .start ≡ moved (courseOf width t .strides) (courseOf width t .start)
   unfolding courseOf traced
   start-moves m r a b =
@@ -204,7 +204,7 @@ module _ (width : ℕ) (t : Tracer) where
       (λ h. rw (still h, h) (follows (t .x) (t .y) 1 width (t .full) (eqb-true (t .x .growth) (t .full) h) (r .y-room) (a .0) (b .0) (a .1) (b .1)))
       (λ h. rw (still h, h) (follows (t .y) (t .x) width 1 (t .full) (y-major t m h) (r .x-room) (a .1) (b .1) (a .0) (b .0)))
 
-  has-room : width ≤ 4294967296 → Major t → RoomBoth t → Above t → Above (traced t)
+  has-room : width ≤ 4294967296 → Major t → RoomBoth t → FromOrigin t → FromOrigin (traced t)
       → Moves (courseOf width t .strides) (courseOf width t .start)
   unfolding courseOf traced
   has-room l m r a b =
@@ -222,7 +222,7 @@ record At (width : ℕ) (t : Tracer) (k : ℕ) : Type 0 where
   strides-are : courseOf width t .strides ≡ courseOf width (tracerAfter t k) .strides
   major-is : Major (tracerAfter t k)
 
-after : (width : ℕ) (t : Tracer) (k : ℕ) → Runs t k → Major t → ((j : ℕ) → j ≤ k → Above (tracerAfter t j)) → At width t k
+after : (width : ℕ) (t : Tracer) (k : ℕ) → Runs t k → Major t → ((j : ℕ) → j ≤ k → FromOrigin (tracerAfter t j)) → At width t k
 unfolding inTurn
 after width t zero r m a = record { start-is = refl; strides-are = refl; major-is = m }
 after width t (suc k) r m a =
@@ -237,23 +237,23 @@ after width t (suc k) r m a =
     }
 
 module _ (width : ℕ) (t : Tracer) (n long : ℕ) (s : Stretch width t n long) where
-  above : (k : ℕ) → k < n → Above (tracerAfter t k)
-  above k l = (s .inside k l .x-in, s .inside k l .y-in)
+  from-origin : (k : ℕ) → k < n → FromOrigin (tracerAfter t k)
+  from-origin k l = (s .inside k l .x-in, s .inside k l .y-in)
 
   at : (k : ℕ) → k < n → At width t k
-  at k l = after width t k (λ j h. s .runs j (omega arith)) (s .major) (λ j h. above j (omega arith))
+  at k l = after width t k (λ j h. s .runs j (omega arith)) (s .major) (λ j h. from-origin j (omega arith))
 
   place-on : (k : ℕ) → k < n
       → bresenhamAfter (courseOf width t .strides) (courseOf width t .start) k .place ≡ placeIn width (pointOn (tracerAfter t k))
   place-on k l = ap (λ (c : Bresenham). c .place) (at k l .start-is) ∙ place-is width (tracerAfter t k)
 
-  pub first-above : 0 < n → Above t
+  pub first-from-origin : 0 < n → FromOrigin t
   unfolding inTurn
-  first-above some = above 0 some
+  first-from-origin some = from-origin 0 some
 
-  next-above : (k : ℕ) → k + 1 < n → Above (traced (tracerAfter t k))
+  next-from-origin : (k : ℕ) → k + 1 < n → FromOrigin (traced (tracerAfter t k))
   unfolding inTurn
-  next-above k l = above (suc k) (omega arith)
+  next-from-origin k l = from-origin (suc k) (omega arith)
 
   pub places : 0 < n → width ≤ 4294967296 → Places (courseOf width t .strides) (courseOf width t .start) n long
   places some narrow =
@@ -264,7 +264,7 @@ module _ (width : ℕ) (t : Tracer) (n long : ℕ) (s : Stretch width t n long) 
             λ k l.
             let o = at k (omega arith) in
             rw (o .start-is, o .strides-are)
-            (has-room width (tracerAfter t k) narrow (o .major-is) (s .runs k (omega arith)) (above k (omega arith)) (next-above k l));
+            (has-room width (tracerAfter t k) narrow (o .major-is) (s .runs k (omega arith)) (from-origin k (omega arith)) (next-from-origin k l));
       }
 
   pub plots-on : (pen : Pen) (l m : List ℕ)

@@ -22,7 +22,7 @@ use Rattle.strokes.specs.declared.bresenham.Strides.{Strides}
 use Rattle.strokes.proofs.Plots.{flat-drawn}
 use Rattle.strokes.proofs.Dashing.{plot-dash-by}
 
--- after j pixels, of which at most `last` are drawn in the loop
+-- after j of the loop's `last` pixels: the state is the course's, and the buffer is as long as it was
 pub record Reached (s : Strides) (start : Bresenham) (last long j : ℕ) (l : List ℕ) (c : Bresenham) : Type 0 where
   pub upto : j ≤ last
   pub as-long : length l ≡ long
@@ -50,7 +50,7 @@ module _ {s : Strides} {start : Bresenham} {last long j : ℕ} {l : List ℕ} {c
 reached-start : (s : Strides) (start : Bresenham) (last : ℕ) (l : List ℕ) → Reached s start last (length l) 0 l start
 reached-start s start last l = record { upto = omega arith; as-long = refl; state-is = turn-none (λ _. moved s) start }
 
--- a solid line
+-- a solid line: the buffer l₀ has the course's first j pixels drawn
 pub record Plotting (pen : Pen) (s : Strides) (start : Bresenham) (last : ℕ) (l₀ l : List ℕ) (c : Bresenham) (j : ℕ) : Type 0 where
   pub reached : Reached s start last (length l₀) j l c
   pub bytes : l ≡ inTurn (plotAt pen s start) j l₀
@@ -82,7 +82,7 @@ module _ {pen : Pen} {s : Strides} {start : Bresenham} {last : ℕ} {l₀ l : Li
   pub storing-end : {n : ℕ} → last ≤ j → last + 1 ≡ n → set l (c .place) (pen .flip) ≡ inTurn (plotAt pen s start) n l₀
   storing-end h e = plotting-end o (flat-drawn pen (getD l (c .place) 0) flat) h e
 
--- a line in dashes, from the pattern state q₀ on
+-- a line in dashes: buffer l₀ and pattern state q₀ are j pixels on
 pub record PlottingDashes (d : Dashes) (s : Strides) (start : Bresenham) (last : ℕ) (l₀ : List ℕ) (q₀ : Pattern) (l : List ℕ) (p : Phase) (c : Bresenham) (j : ℕ)
     : Type 0 where
   pub reached : Reached s start last (length l₀) j l c

@@ -95,9 +95,9 @@ plotOn width pen t k = plot pen (placeIn width (pointOn (tracerAfter t k)))
 abbrev pub plotDashOn : ℕ → Dashes → Tracer → ℕ → Dashed → Dashed
 plotDashOn width d t k = plotDash d (placeIn width (pointOn (tracerAfter t k)))
 
--- A tracer's pixel is right of and below the origin.
-abbrev pub Above : Tracer → Type 0
-Above t = (origin ≤ t .x .coordinate) × (origin ≤ t .y .coordinate)
+-- A tracer's pixel is at the origin or past it, on both axes.
+abbrev pub FromOrigin : Tracer → Type 0
+FromOrigin t = (origin ≤ t .x .coordinate) × (origin ≤ t .y .coordinate)
 
 -- A pixel in a buffer of `long` bytes.
 pub record Placed (width long : ℕ) (p : Point) : Type 0 where

@@ -6,7 +6,7 @@ ghost use Rattle.geometry.specs.Coordinates.{origin};
 ghost use Rattle.strokes.specs.Strokes.{dashed};
 ghost use Rattle.lemmas.specs.Turns.{inTurn};
 ghost use Rattle.strokes.specs.Tracers.{Room, RoomBoth};
-ghost use Rattle.strokes.specs.Bresenham.{Moves, moved, courseBy, courseOf, Places, Above, plotAt, plotDashAt, Stretch, plotOn, plotDashOn};
+ghost use Rattle.strokes.specs.Bresenham.{Moves, moved, courseBy, courseOf, Places, FromOrigin, plotAt, plotDashAt, Stretch, plotOn, plotDashOn};
 use crate::Dashes;
 use crate::phases::back_pen;
 use crate::phases::draw_bit;
@@ -96,7 +96,7 @@ fn course_by(major: Stepper, minor: Stepper, along: usize, across: usize, full: 
 
 // From a tracer's pixel on, in rows of `width` places.
 fn course_of(t: Tracer, width: u32) -> Course
-    requires { ⌜ RoomBoth t × Above t ⌝ }
+    requires { ⌜ RoomBoth t × FromOrigin t ⌝ }
     ensures { λ r. ⌜ r ≡ courseOf width t ⌝ }
 {
     let row = width as usize;

@@ -2,14 +2,14 @@
 -- the tracer's pixels (`plot-dashes-on`).
 -- Assumes nothing.
 use borrow.Author.Needs.{needs}
-use Rattle.strokes.proofs.Courses.{first-room, first-above, places, plot-dashes-on}
+use Rattle.strokes.proofs.Courses.{first-room, first-from-origin, places, plot-dashes-on}
 use Rattle.strokes.proofs.bresenham.dash_visible.Statement.{statement}
 use Rattle.strokes.proofs.bresenham.dash_visible.Tie as tie
 
 course-of-requires : tie.Need-course-of-requires
 course-of-requires c κs =
     let p = c .before .pre in
-    (first-room _ _ (p .0) (p .1 .runs), first-above _ _ _ _ (p .1) (p .0))
+    (first-room _ _ (p .0) (p .1 .runs), first-from-origin _ _ _ _ (p .1) (p .0))
 
 dash-places-requires : tie.Need-dash-places-requires
 dash-places-requires c κs =

@@ -6,7 +6,7 @@ use native.Mathlib.Omega.{arith}
 use borrow.Author.Needs.{needs}
 use lib.ListN.{length}
 use Rattle.strokes.specs.Bresenham.{Places}
-use Rattle.strokes.proofs.Courses.{first-room, first-above, places, stride-sum, plots-on}
+use Rattle.strokes.proofs.Courses.{first-room, first-from-origin, places, stride-sum, plots-on}
 use Rattle.strokes.proofs.Levels.{level-test}
 use Rattle.strokes.proofs.bresenham.draw_visible.Statement.{statement}
 use Rattle.strokes.proofs.bresenham.draw_visible.Tie as tie
@@ -22,7 +22,7 @@ held c =
 course-of-requires : tie.Need-course-of-requires
 course-of-requires c κs =
     let p = c .before .pre in
-    (first-room _ _ (p .0) (p .1 .runs), first-above _ _ _ _ (p .1) (p .0))
+    (first-room _ _ (p .0) (p .1 .runs), first-from-origin _ _ _ _ (p .1) (p .0))
 
 add-if1 : tie.Need-add-if1
 add-if1 c =
