@@ -87,9 +87,6 @@ module _ (u v : Stepper) (along across full : ℕ) where
 module _ (u v : Stepper) (along across full : ℕ) (e : u .growth ≡ full) (room : Room full v)
     (u-here : origin ≤ u .coordinate) (u-there : origin ≤ stepped full u .coordinate)
     (v-here : origin ≤ v .coordinate) (v-there : origin ≤ stepped full v .coordinate) where
-  on : ℕ
-  on = u .coordinate + u .up - u .down
-
   u-next : origin ≤ u .coordinate + u .up - u .down
   u-next = rw (major-steps full u e) at u-there
 
