@@ -141,9 +141,6 @@ module _ (u v : Stepper) (along across full : ℕ) (e : u .growth ≡ full) (roo
             omega (arith, major, enough (v .coordinate) (v .up) (v .down) across ((u .coordinate + u .up - u .down - origin) * along) v-here next);
       }
 
-pub first-room : (t : Tracer) (n : ℕ) → 0 < n → Runs t n → RoomBoth t
-first-room t n some r = rw (turn-none (λ _. traced) t) (r 0 some)
-
 abbrev Major : Tracer → Type 0
 Major t = (t .x .growth ≡ t .full) ⊎ (t .y .growth ≡ t .full)
 
@@ -244,18 +241,22 @@ module _ (width : ℕ) (t : Tracer) (n long : ℕ) (s : Stretch width t n long) 
       → bresenhamAfter (courseOf width t .strides) (courseOf width t .start) k .place ≡ placeIn width (pointOn (tracerAfter t k))
   place-on k l = ap (λ (c : Bresenham). c .place) (at k l .start-is) ∙ place-is width (tracerAfter t k)
 
-  pub first-from-origin : 0 < n → FromOrigin t
+  pub first-room : RoomBoth t
+  first-room = rw (turn-none (λ _. traced) t) (s .runs 0 (s .some))
+
+  pub first-from-origin : FromOrigin t
   unfolding inTurn
-  first-from-origin some = from-origin 0 some
+  first-from-origin = from-origin 0 (s .some)
 
   next-from-origin : (k : ℕ) → k + 1 < n → FromOrigin (traced (tracerAfter t k))
   unfolding inTurn
   next-from-origin k l = from-origin (suc k) (omega arith)
 
-  pub places : 0 < n → width ≤ 4294967296 → Places (courseOf width t .strides) (courseOf width t .start) n long
-  places some narrow =
+  pub places : width ≤ 4294967296 → Places (courseOf width t .strides) (courseOf width t .start) n long
+  places narrow =
       record {
-        slack-some = slack-is width t (first-room t n some (s .runs));
+        some = s .some;
+        slack-some = slack-is width t first-room;
         inside = λ k l. rw (place-on k l) (s .inside k l .place-in);
         moves =
             λ k l.

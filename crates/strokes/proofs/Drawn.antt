@@ -157,14 +157,12 @@ stretch-of width long w u v first n s t fit visible more o =
     let a = pointOf u in
     let b = pointOf v in
     record {
+      some = omega arith;
       runs = traces-run u v (s .start) (s .end - s .start) t (fit .steps-in) (on-line w a b first n s visible t (fit .steps-in) (fit .pixels-in) more o) o;
       major = major-of a b (s .start) t o;
       inside =
           λ k g. placed width w long (pointOn (tracerAfter t k)) (fit .window-in) (all-visible w a b first n s visible t (fit .steps-in) (fit .pixels-in) more o k g);
     }
-
-pub some-left : (a b : ℕ) → a < b → 0 < b - a
-some-left a b h = omega arith
 
 pub start-in : (w : Window) (a b : Point) (first n : ℕ) (s : Span) → Visible w a b first n s → first + n ≤ stepsOf a b + 1 → s .start < s .end
     → s .start ≤ stepsOf a b

@@ -39,7 +39,7 @@ on-level s c level h =
     let less : s .growth < c .slack = omega arith in
     rw (lt-ltb (s .growth) (c .slack) less) (λ i. record { place = c .place + s .ahead - s .back; slack = same i })
 
-module _ (s : Strides) (start : Bresenham) (n long : ℕ) (some : 0 < n) (p : Places s start n long) (level : s .growth ≡ 0) where
+module _ (s : Strides) (start : Bresenham) (n long : ℕ) (p : Places s start n long) (level : s .growth ≡ 0) where
   -- k pixels on
   right-by : s .ahead ≡ 1 → s .back ≡ 0 → (k : ℕ) → bresenhamAfter s start k ≡ record { place = start .place + k; slack = start .slack }
   unfolding inTurn
@@ -68,17 +68,17 @@ module _ (s : Strides) (start : Bresenham) (n long : ℕ) (some : 0 < n) (p : Pl
         back-one g = (omega (arith, g), omega (arith, g))
 
     pub left-room : (s .back ≡ 0 → ⊥) → n - 1 ≤ start .place
-    left-room f = at-last n some p
+    left-room f = at-last n p
       where
-        at-last : (n : ℕ) → 0 < n → Places s start n long → n - 1 ≤ start .place
-        at-last zero h q = omega arith
-        at-last (suc zero) h q = omega arith
-        at-last (suc (suc m)) h q = omega (arith, q .moves m (omega arith) .back-enough, place-left f m, next, f)
+        at-last : (n : ℕ) → Places s start n long → n - 1 ≤ start .place
+        at-last zero q = omega arith
+        at-last (suc zero) q = omega arith
+        at-last (suc (suc m)) q = omega (arith, q .moves m (omega arith) .back-enough, place-left f m, next, f)
 
     pub fill-right : s .back ≡ 0 → (pen : Pen) (l m : List ℕ) → length l ≡ long → m ≡ filledRow pen n l (start .place)
         → m ≡ inTurn (plotAt pen s start) n l
     fill-right f pen l m e g =
-        let last : start .place + (n - 1) < long = rw (place-right f (n - 1)) at (p .inside (n - 1) (omega arith)) in
+        let last : start .place + (n - 1) < long = rw (place-right f (n - 1)) at (p .inside (n - 1) (omega (arith, p .some))) in
         g ∙ sym (filled-row pen n l (start .place) (omega arith))
         ∙ sym
         (turn-agree (plotAt pen s start) (λ k. plot pen (start .place + k)) n l (λ k h t. ap (λ (i : ℕ). plot pen i t) (place-right f k))
@@ -88,7 +88,7 @@ module _ (s : Strides) (start : Bresenham) (n long : ℕ) (some : 0 < n) (p : Pl
         → m ≡ inTurn (plotAt pen s start) n l
     fill-left f pen l m e g =
         let room = left-room f in
-        let first : start .place - 0 < long = rw (place-left f 0) at (p .inside 0 some) in
+        let first : start .place - 0 < long = rw (place-left f 0) at (p .inside 0 (p .some)) in
         let at : start .place - (n - 1) ≡ start .place + 1 - n = omega arith in
         g ∙ sym (filled-row pen n l (start .place - (n - 1)) (omega arith))
         ∙ ap (filled pen n l) at ∙ fill-turned-at pen n l (start .place + 1) (omega arith)

@@ -1,7 +1,7 @@
 -- The error term: at each pixel the coordinate is the nearest, and a step leads to the next pixel's.
 -- Assumes nothing.
 use mathlib.Core.Path.{_≡_, refl, ap}
-use mathlib.Core.Logic.{_⊎_, ⊎-elim, inl, inr}
+use mathlib.Core.Logic.{⊎-elim, inl, inr}
 use Prim.Native.Nat.{ℕ, zero, suc, _+_, _-_, _*_, _/_, _%_, _≤_, _<_}
 use native.Mathlib.Nat.{add-mul, mul-suc, mul-assoc, one-mul, div-add-mod, mod-lt, mul-le-mul-left}
 use native.Mathlib.Omega.{arith}

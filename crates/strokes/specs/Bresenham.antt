@@ -65,8 +65,9 @@ unfoldable pub courseOf : ℕ → Tracer → Course
 courseOf width t =
     cond (eqb (t .x .growth) (t .full)) (courseBy (t .x) (t .y) 1 width (t .full)) (courseBy (t .y) (t .x) width 1 (t .full))
 
--- The places of n pixels are in the buffer, and each but the last can move on.
+-- The places of n pixels, at least one, are in the buffer, and each but the last can move on.
 pub record Places (s : Strides) (c : Bresenham) (n long : ℕ) : Type 0 where
+  pub some : 0 < n
   pub slack-some : 0 < c .slack
   pub inside : (k : ℕ) → k < n → bresenhamAfter s c k .place < long
   pub moves : (k : ℕ) → k + 1 < n → Moves s (bresenhamAfter s c k)
@@ -105,8 +106,9 @@ pub record Placed (width long : ℕ) (p : Point) : Type 0 where
   pub y-in : origin ≤ p .y
   pub place-in : placeIn width p < long
 
--- n pixels of a line, all in the buffer.
+-- n pixels of a line, at least one, all in the buffer.
 pub record Stretch (width : ℕ) (t : Tracer) (n long : ℕ) : Type 0 where
+  pub some : 0 < n
   pub runs : Runs t n
   pub major : (t .x .growth ≡ t .full) ⊎ (t .y .growth ≡ t .full)
   pub inside : (k : ℕ) → k < n → Placed width long (pointOn (tracerAfter t k))

@@ -111,7 +111,7 @@ fn course_of(t: Tracer, width: u32) -> Course
 
 // n pixels of a course.
 fn draw_places(buffer: &mut [u8], pen: Pen, s: Strides, start: Bresenham, n: usize)
-    requires { ⌜ (0 < n) × Places s start n (length (now buffer)) ⌝ }
+    requires { ⌜ Places s start n (length (now buffer)) ⌝ }
     ensures { λ _. ⌜ now (buffer .exit) ≡ inTurn (plotAt pen s start) n (now (buffer .entry)) ⌝ }
 {
     let last = n - 1;
@@ -129,7 +129,7 @@ fn draw_places(buffer: &mut [u8], pen: Pen, s: Strides, start: Bresenham, n: usi
 
 // The same with a pen that keeps nothing of the old bytes.
 fn store_places(buffer: &mut [u8], pen: Pen, s: Strides, start: Bresenham, n: usize)
-    requires { ⌜ (0 < n) × Places s start n (length (now buffer)) × (pen .keep ≡ 0) ⌝ }
+    requires { ⌜ Places s start n (length (now buffer)) × (pen .keep ≡ 0) ⌝ }
     ensures { λ _. ⌜ now (buffer .exit) ≡ inTurn (plotAt pen s start) n (now (buffer .entry)) ⌝ }
 {
     let last = n - 1;
@@ -147,7 +147,7 @@ fn store_places(buffer: &mut [u8], pen: Pen, s: Strides, start: Bresenham, n: us
 
 // The same as one row, where each place is next to the one before it.
 fn fill_places(buffer: &mut [u8], pen: Pen, s: Strides, start: Bresenham, n: usize)
-    requires { ⌜ (0 < n) × Places s start n (length (now buffer)) × (s .growth ≡ 0) × (s .ahead + s .back ≡ 1) ⌝ }
+    requires { ⌜ Places s start n (length (now buffer)) × (s .growth ≡ 0) × (s .ahead + s .back ≡ 1) ⌝ }
     ensures { λ _. ⌜ now (buffer .exit) ≡ inTurn (plotAt pen s start) n (now (buffer .entry)) ⌝ }
 {
     if s.back == 0 {
@@ -159,7 +159,7 @@ fn fill_places(buffer: &mut [u8], pen: Pen, s: Strides, start: Bresenham, n: usi
 
 // n pixels from a tracer's on.
 pub(crate) fn draw_visible(buffer: &mut [u8], width: u32, pen: Pen, t: Tracer, n: usize)
-    requires { ⌜ (0 < n) × Stretch width t n (length (now buffer)) ⌝ }
+    requires { ⌜ Stretch width t n (length (now buffer)) ⌝ }
     ensures { λ _. ⌜ now (buffer .exit) ≡ inTurn (plotOn width pen t) n (now (buffer .entry)) ⌝ }
 {
     let course = course_of(t, width);
@@ -184,7 +184,7 @@ fn dash_places(
     start: Bresenham,
     n: usize,
 ) -> Pattern
-    requires { ⌜ (0 < n) × Places s start n (length (now buffer)) ⌝ }
+    requires { ⌜ Places s start n (length (now buffer)) ⌝ }
     ensures { λ r. ⌜ dashed (now (buffer .exit)) r ≡ inTurn (plotDashAt dashes s start) n (dashed (now (buffer .entry)) pattern) ⌝ }
 {
     let fore = dashes.fore;
@@ -217,7 +217,7 @@ pub(crate) fn dash_visible(
     t: Tracer,
     n: usize,
 ) -> Pattern
-    requires { ⌜ (0 < n) × Stretch width t n (length (now buffer)) ⌝ }
+    requires { ⌜ Stretch width t n (length (now buffer)) ⌝ }
     ensures { λ r. ⌜ dashed (now (buffer .exit)) r ≡ inTurn (plotDashOn width dashes t) n (dashed (now (buffer .entry)) pattern) ⌝ }
 {
     let course = course_of(t, width);

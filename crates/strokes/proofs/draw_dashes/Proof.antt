@@ -10,7 +10,7 @@ use borrow.Author.Needs.{needs}
 use lib.ListN.{length}
 use Rattle.geometry.specs.Coordinates.{pointOf}
 use Rattle.geometry.proofs.Lines.{steps-lt}
-use Rattle.strokes.proofs.Drawn.{Fit, fit-of, start-in, some-left, stretch-of, visible-dashes, hidden-dashes, dashes-fit, dashes-unfit}
+use Rattle.strokes.proofs.Drawn.{Fit, fit-of, start-in, stretch-of, visible-dashes, hidden-dashes, dashes-fit, dashes-unfit}
 use Rattle.strokes.proofs.draw_dashes.Statement.{statement}
 use Rattle.strokes.proofs.draw_dashes.Tie as tie
 
@@ -69,10 +69,8 @@ dash-visible-requires : tie.Need-dash-visible-requires
 dash-visible-requires c κs =
     let t = c .before .before in
     let e = t .before .before .before in
-    let q = e .before .before in (
-      some-left _ _ (e .if2 .left),
-      stretch-of _ _ _ _ _ _ _ _ _ (fit (q .before .before)) (q .visible-span .ensures) (e .if2 .left) (t .tracer-at .ensures),
-    )
+    let q = e .before .before in
+    stretch-of _ _ _ _ _ _ _ _ _ (fit (q .before .before)) (q .visible-span .ensures) (e .if2 .left) (t .tracer-at .ensures)
 
 add-after : tie.Need-add-after
 add-after c =

@@ -7,7 +7,7 @@ use borrow.Author.Tests.{not-true, not-false}
 use borrow.Author.Needs.{needs}
 use lib.ListN.{length}
 use Rattle.geometry.specs.Coordinates.{pointOf}
-use Rattle.strokes.proofs.Drawn.{Fit, fit-of, start-in, some-left, stretch-of, visible-pixels, hidden-pixels, stroke-fit, stroke-unfit}
+use Rattle.strokes.proofs.Drawn.{Fit, fit-of, start-in, stretch-of, visible-pixels, hidden-pixels, stroke-fit, stroke-unfit}
 use Rattle.strokes.proofs.draw_line.Statement.{statement}
 use Rattle.strokes.proofs.draw_line.Tie as tie
 
@@ -44,7 +44,7 @@ draw-visible-requires c κs =
     let t = c .before .before in
     let e = t .before in
     let q = e .before .before in
-    (some-left _ _ (e .if2 .left), stretch-of _ _ _ _ _ _ _ _ _ (fit (q .before)) (q .visible-span .ensures) (e .if2 .left) (t .tracer-at .ensures))
+    stretch-of _ _ _ _ _ _ _ _ _ (fit (q .before)) (q .visible-span .ensures) (e .if2 .left) (t .tracer-at .ensures)
 
 same-length : tie.Need-same-length
 same-length c = search needs

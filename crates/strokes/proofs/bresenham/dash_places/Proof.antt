@@ -24,13 +24,13 @@ abbrev μ-loop : tie.MeasureT-loop
 inside : (c : tie.At-loop Inv-loop μ-loop)
     → let l = c .loop in
     l .j < c .before .before .before .before .before .args .n → l .state .place < length (l .buffer)
-inside c h = place-inside (c .before .before .before .before .before .pre .1) (c .loop .inv .reached) h
+inside c h = place-inside (c .before .before .before .before .before .pre) (c .loop .inv .reached) h
 
 back-pen-requires : tie.Need-back-pen-requires Inv-loop μ-loop
 back-pen-requires c κs = search needs
 
 sub-last : tie.Need-sub-last Inv-loop μ-loop
-sub-last c = c .before .before .before .pre .0
+sub-last c = c .before .before .before .pre .some
 
 phase-at-requires : tie.Need-phase-at-requires Inv-loop μ-loop
 phase-at-requires c κs = search needs
@@ -54,7 +54,7 @@ next-by-axis-requires : tie.Need-next-by-axis-requires Inv-loop μ-loop
 next-by-axis-requires c κs =
     let o = c .before .before .before .before .before in
     let l = o .before in
-    can-move (l .before .before .before .before .before .pre .1) (l .loop .inv .reached) (omega (arith, o .loop-test .taken))
+    can-move (l .before .before .before .before .before .pre) (l .loop .inv .reached) (omega (arith, o .loop-test .taken))
 
 add-j : tie.Need-add-j Inv-loop μ-loop
 add-j c = search needs
@@ -98,7 +98,7 @@ returns c =
     let o = k .before .before .before in
     let l = o .before in
     let a = l .before in
-    let some = a .before .before .before .before .pre .0 in
+    let some = a .before .before .before .before .pre .some in
     plotting-dashes-end (l .loop .inv) (λ m. omega (arith, k .slice-known3 .given m)) (a .before .back-pen .ensures) (i .draw-bit2 .ensures)
     (c .pattern .ensures ∙ p .next2 .ensures .0) (o .loop-test .left) (omega (arith, some)) (a .phase-at .ensures .0)
 

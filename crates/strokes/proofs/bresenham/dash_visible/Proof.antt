@@ -9,13 +9,12 @@ use Rattle.strokes.proofs.bresenham.dash_visible.Tie as tie
 course-of-requires : tie.Need-course-of-requires
 course-of-requires c κs =
     let p = c .before .pre in
-    (first-room _ _ (p .0) (p .1 .runs), first-from-origin _ _ _ _ (p .1) (p .0))
+    (first-room _ _ _ _ p, first-from-origin _ _ _ _ p)
 
 dash-places-requires : tie.Need-dash-places-requires
 dash-places-requires c κs =
     let o = c .before in
-    let p = o .before .before .pre in
-    (p .0, rw (o .course-of .ensures) (places _ _ _ _ (p .1) (p .0) (search needs)))
+    rw (o .course-of .ensures) (places _ _ _ _ (o .before .before .pre) (search needs))
 
 same-length : tie.Need-same-length
 same-length c = search needs
@@ -24,7 +23,7 @@ returns : tie.Need-returns
 returns c =
     let p = c .before .before in
     let o = p .before .before in
-    plot-dashes-on _ _ _ _ (o .before .before .pre .1) _ _ _ (rw (o .course-of .ensures) at (p .dash-places .ensures))
+    plot-dashes-on _ _ _ _ (o .before .before .pre) _ _ _ (rw (o .course-of .ensures) at (p .dash-places .ensures))
 
 pub dash-visible-spec : {M : Type 1} → statement M
 dash-visible-spec = tie.close (tie.spec course-of-requires dash-places-requires same-length returns)

@@ -20,10 +20,10 @@ abbrev μ-loop : tie.MeasureT-loop
 inside : (c : tie.At-loop Inv-loop μ-loop)
     → let l = c .loop in
     l .j < c .before .before .args .n → l .state .place < length (l .buffer)
-inside c h = place-inside (c .before .before .pre .1) (c .loop .inv .reached) h
+inside c h = place-inside (c .before .before .pre) (c .loop .inv .reached) h
 
 sub-last : tie.Need-sub-last Inv-loop μ-loop
-sub-last c = c .before .pre .0
+sub-last c = c .before .pre .some
 
 loop-holds : tie.Need-loop-holds Inv-loop μ-loop
 loop-holds c = plotting-start _ _ _ _ _
@@ -41,7 +41,7 @@ next-requires : tie.Need-next-requires Inv-loop μ-loop
 next-requires c κs =
     let o = c .before .before in
     let l = o .before in
-    can-move (l .before .before .pre .1) (l .loop .inv .reached) (omega (arith, o .loop-test .taken))
+    can-move (l .before .before .pre) (l .loop .inv .reached) (omega (arith, o .loop-test .taken))
 
 add-j : tie.Need-add-j Inv-loop μ-loop
 add-j c = search needs
@@ -69,8 +69,7 @@ same-length c = search needs
 returns : tie.Need-returns Inv-loop μ-loop
 returns c =
     let o = c .before .before in
-    let some = o .before .before .before .pre .0 in
-    plotting-end (o .before .loop .inv) (c .draw2 .ensures) (o .loop-test .left) (omega (arith, some))
+    plotting-end (o .before .loop .inv) (c .draw2 .ensures) (o .loop-test .left) (omega (arith, o .before .before .before .pre .some))
 
 pub draw-places-spec : {M : Type 1} → statement M
 draw-places-spec =

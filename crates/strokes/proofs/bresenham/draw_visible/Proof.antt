@@ -16,26 +16,24 @@ held : (c : tie.After-course-of)
     let r = c .course-of .result in
     Places (r .strides) (r .start) (a .n) (length (a .buffer .now))
 held c =
-    let p = c .before .before .pre in
-    rw (c .course-of .ensures) (places _ _ _ _ (p .1) (p .0) (search needs))
+    rw (c .course-of .ensures) (places _ _ _ _ (c .before .before .pre) (search needs))
 
 course-of-requires : tie.Need-course-of-requires
 course-of-requires c κs =
     let p = c .before .pre in
-    (first-room _ _ (p .0) (p .1 .runs), first-from-origin _ _ _ _ (p .1) (p .0))
+    (first-room _ _ _ _ p, first-from-origin _ _ _ _ p)
 
 add-if1 : tie.Need-add-if1
 add-if1 c =
     let o = c .before .before .before in
-    let p = o .before .before .pre in
-    omega (arith, stride-sum _ _ _ (o .course-of .ensures) (first-room _ _ (p .0) (p .1 .runs)) (search needs))
+    omega (arith, stride-sum _ _ _ (o .course-of .ensures) (first-room _ _ _ _ (o .before .before .pre)) (search needs))
 
 fill-places-requires : tie.Need-fill-places-requires
 fill-places-requires c κs =
     let o = c .before .before .before .before .before in
     let s = o .course-of .result .strides in
     let t = level-test (s .growth) (s .ahead + s .back) (c .before .if1 .taken) in
-    (o .before .before .pre .0, held o, t .0, t .1)
+    (held o, t .0, t .1)
 
 same-length : tie.Need-same-length
 same-length c = search needs
@@ -44,12 +42,12 @@ returns : tie.Need-returns
 returns c =
     let d = c .before .before in
     let o = d .before .before .before .before .before .before in
-    plots-on _ _ _ _ (o .before .before .pre .1) _ _ _ (rw (o .course-of .ensures) at (d .fill-places .ensures))
+    plots-on _ _ _ _ (o .before .before .pre) _ _ _ (rw (o .course-of .ensures) at (d .fill-places .ensures))
 
 store-places-requires : tie.Need-store-places-requires
 store-places-requires c κs =
     let o = c .before .before .before .before .before .before .before in
-    (o .before .before .pre .0, held o, c .before .if2 .taken)
+    (held o, c .before .if2 .taken)
 
 same-length-2 : tie.Need-same-length-2
 same-length-2 c = search needs
@@ -58,12 +56,11 @@ returns-2 : tie.Need-returns-2
 returns-2 c =
     let d = c .before .before in
     let o = d .before .before .before .before .before .before .before .before in
-    plots-on _ _ _ _ (o .before .before .pre .1) _ _ _ (rw (o .course-of .ensures) at (d .store-places .ensures))
+    plots-on _ _ _ _ (o .before .before .pre) _ _ _ (rw (o .course-of .ensures) at (d .store-places .ensures))
 
 draw-places-requires : tie.Need-draw-places-requires
 draw-places-requires c κs =
-    let o = c .before .before .before .before .before .before .before in
-    (o .before .before .pre .0, held o)
+    held (c .before .before .before .before .before .before .before)
 
 same-length-3 : tie.Need-same-length-3
 same-length-3 c = search needs
@@ -72,7 +69,7 @@ returns-3 : tie.Need-returns-3
 returns-3 c =
     let d = c .before .before in
     let o = d .before .before .before .before .before .before .before .before in
-    plots-on _ _ _ _ (o .before .before .pre .1) _ _ _ (rw (o .course-of .ensures) at (d .draw-places .ensures))
+    plots-on _ _ _ _ (o .before .before .pre) _ _ _ (rw (o .course-of .ensures) at (d .draw-places .ensures))
 
 pub draw-visible-spec : {M : Type 1} → statement M
 draw-visible-spec =

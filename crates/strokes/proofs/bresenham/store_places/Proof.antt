@@ -19,10 +19,10 @@ abbrev μ-loop : tie.MeasureT-loop
 inside : (c : tie.At-loop Inv-loop μ-loop)
     → let l = c .loop in
     l .j < c .before .before .args .n → l .state .place < length (l .buffer)
-inside c h = place-inside (c .before .before .pre .1) (c .loop .inv .reached) h
+inside c h = place-inside (c .before .before .pre .0) (c .loop .inv .reached) h
 
 sub-last : tie.Need-sub-last Inv-loop μ-loop
-sub-last c = c .before .pre .0
+sub-last c = c .before .pre .0 .some
 
 loop-holds : tie.Need-loop-holds Inv-loop μ-loop
 loop-holds c = plotting-start _ _ _ _ _
@@ -33,7 +33,7 @@ slice-write-buffer c = inside (c .before) (omega (arith, c .loop-test .taken))
 next-requires : tie.Need-next-requires Inv-loop μ-loop
 next-requires c κs =
     let l = c .before in
-    can-move (l .before .before .pre .1) (l .loop .inv .reached) (omega (arith, c .loop-test .taken))
+    can-move (l .before .before .pre .0) (l .loop .inv .reached) (omega (arith, c .loop-test .taken))
 
 add-j : tie.Need-add-j Inv-loop μ-loop
 add-j c = search needs
@@ -45,7 +45,7 @@ loop-again : tie.Need-loop-again Inv-loop μ-loop
 loop-again c =
     let o = c .before in
     let l = o .before in
-    storing-turn (l .loop .inv) (l .before .before .pre .2) (o .loop-test .taken) (c .next .ensures)
+    storing-turn (l .loop .inv) (l .before .before .pre .1) (o .loop-test .taken) (c .next .ensures)
 
 slice-write-buffer-2 : tie.Need-slice-write-buffer-2 Inv-loop μ-loop
 slice-write-buffer-2 c = inside (c .before) (omega (arith, c .loop-test .left))
@@ -57,7 +57,7 @@ returns : tie.Need-returns Inv-loop μ-loop
 returns c =
     let l = c .before in
     let p = l .before .before .pre in
-    storing-end (l .loop .inv) (p .2) (c .loop-test .left) (omega (arith, p .0))
+    storing-end (l .loop .inv) (p .1) (c .loop-test .left) (omega (arith, p .0 .some))
 
 pub store-places-spec : {M : Type 1} → statement M
 store-places-spec =
