@@ -7,7 +7,7 @@ use native.Mathlib.Nat.{mul-add, add-mul, mul-suc, mul-comm, mul-assoc, mul-le-m
 use native.Mathlib.Omega.{arith}
 use Rattle.lemmas.proofs.Booleans.{and-left, and-right}
 use Rattle.geometry.specs.Clip.{inWindow}
-use Rattle.geometry.specs.Line.{exact, distance, nearestOf, linePoint, stepsOf}
+use Rattle.geometry.specs.Line.{exact, nearestOf, linePoint, stepsOf}
 use Rattle.geometry.specs.declared.Point.{Point}
 use Rattle.geometry.specs.declared.Window.{Window}
 use Rattle.geometry.proofs.Lines.{Near, near, below, le-of-not-lt, parts, from-a-to-b}
@@ -212,9 +212,3 @@ hidden-beside w a b p q first n steps x l e f g u none =
 
 pub last-fits : (first n steps : ℕ) → first + n ≤ steps + 1 → steps < 65536 → first + n < 2 ^ 64
 last-fits first n steps l h = omega arith
-
-pub x-slope : (a b : Point) → distance (a .x) (b .x) ≤ stepsOf a b
-x-slope a b = omega arith
-
-pub y-slope : (a b : Point) → distance (a .y) (b .y) ≤ stepsOf a b
-y-slope a b = omega arith

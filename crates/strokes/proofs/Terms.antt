@@ -11,7 +11,7 @@ use Rattle.lemmas.proofs.Booleans.{by-cases}
 use Rattle.geometry.specs.Line.{exact, distance, nearestOf}
 use Rattle.geometry.proofs.Lines.{Near, near, near-unique, below, le-of-not-lt, parts}
 use Rattle.strokes.specs.declared.tracers.Stepper.{Stepper}
-use Rattle.strokes.specs.Tracers.{Up, Down, On, Room, stepped}
+use Rattle.strokes.specs.Tracers.{Axis, Up, Down, On, Room, stepped}
 
 -- a coordinate is at most the larger end's
 pub nearest-below : (n i a b m : ℕ) → 0 < n → i ≤ n → a < m → b < m → nearestOf n i a b < m
@@ -40,13 +40,13 @@ module _ (n i a b : ℕ) (g : Stepper) (o : On n i a b g) where
       (⊎-elim (λ w. near-up w) (λ w. near-down w) (o .way))
       (near n i a b some)
 
-  pub on-room : 0 < n → i ≤ n → a < 131072 → b < 131072 → n < 65536 → Room (2 * n) g
-  on-room some l p q r =
+  pub on-room : Axis n a b → i ≤ n → Room (2 * n) g
+  on-room x l =
       record {
-        full-most = omega arith;
+        full-most = omega (arith, x .steps-few);
         error-less = o .small;
         growth-most = omega (arith, o .grows, o .slope);
-        coordinate-most = omega (arith, on-nearest some, nearest-below n i a b 131072 some l p q);
+        coordinate-most = omega (arith, on-nearest (x .some), nearest-below n i a b 131072 (x .some) l (x .from-small) (x .to-small));
         up-most = ⊎-elim (λ w. omega (arith, w .up-is)) (λ w. omega (arith, w .up-is)) (o .way);
         down-most = ⊎-elim (λ w. omega (arith, w .down-is)) (λ w. omega (arith, w .down-is)) (o .way);
       }

@@ -6,21 +6,49 @@ use Prim.Native.Nat.{ℕ, zero, suc, _+_, _*_, _≤_, _<_}
 use native.Mathlib.Omega.{arith}
 use Rattle.raster.specs.declared.Pen.{Pen}
 use Rattle.geometry.specs.Coordinates.{pointOf}
-use Rattle.geometry.specs.Line.{stepsOf, linePoint}
+use Rattle.geometry.specs.Line.{distance, stepsOf, linePoint}
 use Rattle.geometry.specs.declared.Point.{Point}
 use Rattle.geometry.specs.declared.Window.{Window}
 use Rattle.geometry.proofs.Whole.{x-within, y-within}
 use Rattle.geometry.proofs.Lines.{steps-lt}
 use Rattle.strokes.specs.Strokes.{plotted, pixelsOf, Dashed, dash, dashPixels}
 use Rattle.lemmas.specs.Turns.{inTurn}
-use Rattle.strokes.specs.Tracers.{On, pointOn, Traces, RoomBoth, traced, tracerAfter, Runs}
+use Rattle.strokes.specs.Tracers.{Axis, On, pointOn, Traces, RoomBoth, traced, tracerAfter, Runs}
 use Rattle.strokes.specs.declared.Dashes.{Dashes}
 use Rattle.strokes.specs.declared.tracers.Stepper.{Stepper}
 use Rattle.strokes.specs.declared.tracers.Tracer.{Tracer}
 use Rattle.strokes.proofs.Terms.{on-nearest, on-next, on-room}
 
+x-slope : (a b : Point) → distance (a .x) (b .x) ≤ stepsOf a b
+x-slope a b = omega arith
+
+y-slope : (a b : Point) → distance (a .y) (b .y) ≤ stepsOf a b
+y-slope a b = omega arith
+
 within : (first k n steps : ℕ) → k < n → first + n ≤ steps + 1 → first + k ≤ steps
 within first k n steps h l = omega arith
+
+-- both axes of a line that the machine draws
+module _ (v w : ℕ) (some : 0 < stepsOf (pointOf v) (pointOf w)) where
+  pub x-axis : Axis (stepsOf (pointOf v) (pointOf w)) (pointOf v .x) (pointOf w .x)
+  x-axis =
+      record {
+        some = some;
+        steps-few = steps-lt v w;
+        from-small = x-within v .high;
+        to-small = x-within w .high;
+        slope = x-slope (pointOf v) (pointOf w);
+      }
+
+  pub y-axis : Axis (stepsOf (pointOf v) (pointOf w)) (pointOf v .y) (pointOf w .y)
+  y-axis =
+      record {
+        some = some;
+        steps-few = steps-lt v w;
+        from-small = y-within v .high;
+        to-small = y-within w .high;
+        slope = y-slope (pointOf v) (pointOf w);
+      }
 
 pub traces-of : (a b p q : Point) (n i : ℕ) (x y : Stepper) → p ≡ a → q ≡ b → n ≡ stepsOf a b
     → On n i (p .x) (q .x) x → On n i (p .y) (q .y) y → Traces a b i (record { x = x; y = y; full = 2 * n })
@@ -57,8 +85,8 @@ traces-room : (v w i : ℕ) (t : Tracer) → 0 < stepsOf (pointOf v) (pointOf w)
 traces-room v w i t some l o =
     let n = stepsOf (pointOf v) (pointOf w) in
     record {
-      x-room = rw (o .full-is) (on-room n i (pointOf v .x) (pointOf w .x) (t .x) (o .along-x) some l (x-within v .high) (x-within w .high) (steps-lt v w));
-      y-room = rw (o .full-is) (on-room n i (pointOf v .y) (pointOf w .y) (t .y) (o .along-y) some l (y-within v .high) (y-within w .high) (steps-lt v w));
+      x-room = rw (o .full-is) (on-room n i (pointOf v .x) (pointOf w .x) (t .x) (o .along-x) (x-axis v w some) l);
+      y-room = rw (o .full-is) (on-room n i (pointOf v .y) (pointOf w .y) (t .y) (o .along-y) (y-axis v w some) l);
     }
 
 pub traces-run : (v w first n : ℕ) (t : Tracer) → 0 < stepsOf (pointOf v) (pointOf w) → first + n ≤ stepsOf (pointOf v) (pointOf w) + 1

@@ -12,6 +12,14 @@ use Rattle.lemmas.specs.Turns.{inTurn}
 use Rattle.strokes.specs.declared.tracers.Stepper.{Stepper}
 use Rattle.strokes.specs.declared.tracers.Tracer.{Tracer}
 
+-- One axis of a line of n steps, from a to b, in the numbers of the machine.
+pub record Axis (n a b : ℕ) : Type 0 where
+  pub some : 0 < n
+  pub steps-few : n < 65536
+  pub from-small : a < 131072
+  pub to-small : b < 131072
+  pub slope : distance a b ≤ n
+
 -- Upward the term is 2(E - nv) + n - 1, downward 2(nv - E) + n.
 pub record Up (n e a b : ℕ) (g : Stepper) : Type 0 where
   pub order : a ≤ b

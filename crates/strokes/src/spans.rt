@@ -3,7 +3,8 @@ ghost use mathlib.Core.Path.{_≡_};
 ghost use Prim.Native.Nat.{_+_, _-_, _≤_, _<_, min, max};
 ghost use Rattle.geometry.specs.Coordinates.{pointOf};
 ghost use Rattle.geometry.specs.Clip.{inWindow};
-ghost use Rattle.geometry.specs.Line.{distance, stepsOf};
+ghost use Rattle.geometry.specs.Line.{stepsOf};
+ghost use Rattle.strokes.specs.Tracers.{Axis};
 ghost use Rattle.strokes.specs.Spans.{Counts, Below, AtLeast, Spans, Visible};
 use geometry::Point;
 use geometry::Window;
@@ -29,7 +30,7 @@ fn count(n: usize, d: usize, m: usize, half: usize) -> usize
 
 // How many pixels lie below c, on an axis that goes up from a to b.
 fn below(n: usize, a: usize, b: usize, c: usize) -> usize
-    requires { ⌜ (0 < n) × (n < 65536) × (a ≤ b) × (b < 131072) × (distance a b ≤ n) ⌝ }
+    requires { ⌜ Axis n a b × (a ≤ b) ⌝ }
     ensures { λ r. ⌜ Below n a b c r ⌝ }
 {
     if c <= a {
@@ -43,7 +44,7 @@ fn below(n: usize, a: usize, b: usize, c: usize) -> usize
 
 // How many pixels lie at or above c, on an axis that goes down from a to b.
 fn at_least(n: usize, a: usize, b: usize, c: usize) -> usize
-    requires { ⌜ (0 < n) × (n < 65536) × (b ≤ a) × (a < 131072) × (distance a b ≤ n) ⌝ }
+    requires { ⌜ Axis n a b × (b ≤ a) ⌝ }
     ensures { λ r. ⌜ AtLeast n a b c r ⌝ }
 {
     if a < c {
@@ -57,7 +58,7 @@ fn at_least(n: usize, a: usize, b: usize, c: usize) -> usize
 
 // The pixels whose coordinate is at least `low` and below `high`.
 fn span_of(n: usize, a: usize, b: usize, low: usize, high: usize) -> Span
-    requires { ⌜ (0 < n) × (n < 65536) × (a < 131072) × (b < 131072) × (distance a b ≤ n) ⌝ }
+    requires { ⌜ Axis n a b ⌝ }
     ensures { λ r. ⌜ Spans n a b low high r ⌝ }
 {
     if a <= b {

@@ -1,8 +1,8 @@
 // A line's pixels by an error term for each axis.
 ghost use Prim.Native.Nat.{_≤_, _<_};
 ghost use Rattle.geometry.specs.Coordinates.{pointOf};
-ghost use Rattle.geometry.specs.Line.{distance, stepsOf};
-ghost use Rattle.strokes.specs.Tracers.{On, Traces};
+ghost use Rattle.geometry.specs.Line.{stepsOf};
+ghost use Rattle.strokes.specs.Tracers.{Axis, On, Traces};
 use geometry::line_steps;
 use geometry::point_of;
 
@@ -17,7 +17,7 @@ pub(crate) struct Stepper {
 
 // At pixel i of a line of n steps, along an axis from a to b.
 fn stepper_at(n: usize, i: usize, a: usize, b: usize) -> Stepper
-    requires { ⌜ (0 < n) × (n < 65536) × (i ≤ n) × (a < 131072) × (b < 131072) × (distance a b ≤ n) ⌝ }
+    requires { ⌜ Axis n a b × (i ≤ n) ⌝ }
     ensures { λ r. ⌜ On n i a b r ⌝ }
 {
     let e = (n - i) * a + i * b;

@@ -7,13 +7,13 @@ use Rattle.strokes.proofs.spans.below.Statement.{statement}
 use Rattle.strokes.proofs.spans.below.Tie as tie
 
 returns : tie.Need-returns
-returns c = below-none _ _ _ _ (c .before .pre .0) (c .before .pre .2) (c .if1 .taken)
+returns c = below-none _ _ _ _ (c .before .pre .0 .some) (c .before .pre .1) (c .if1 .taken)
 
 add-result : tie.Need-add-result
 add-result c = search needs
 
 returns-2 : tie.Need-returns-2
-returns-2 c = let s = c .before .before in below-all _ _ _ _ (s .pre .0) (s .pre .2) (c .if2 .taken)
+returns-2 c = let s = c .before .before in below-all _ _ _ _ (s .pre .0 .some) (s .pre .1) (c .if2 .taken)
 
 sub-count : tie.Need-sub-count
 sub-count c = search needs
@@ -31,7 +31,7 @@ returns-3 : tie.Need-returns-3
 returns-3 c =
     let e = c .before .before in
     let s = e .before in
-    below-count _ _ _ _ (s .pre .0) (s .pre .2) _ (e .if1 .left) (c .count .ensures)
+    below-count _ _ _ _ (s .pre .0 .some) (s .pre .1) _ (e .if1 .left) (c .count .ensures)
 
 pub below-spec : {M : Type 1} → statement M
 below-spec =

@@ -2,9 +2,9 @@
 -- x lies in the window none is (`hidden-beside`); else those are whose x and y both do (`visible-by`).
 -- Assumes nothing.
 use borrow.Author.Needs.{needs}
-use Rattle.geometry.proofs.Whole.{x-within, y-within}
 use Rattle.geometry.proofs.Lines.{steps-lt}
-use Rattle.strokes.proofs.Crossings.{last-fits, x-slope, y-slope, visible-whole, visible-by, hidden-beside}
+use Rattle.strokes.proofs.Crossings.{last-fits, visible-whole, visible-by, hidden-beside}
+use Rattle.strokes.proofs.Traced.{x-axis, y-axis}
 use Rattle.strokes.proofs.spans.visible_span.Statement.{statement}
 use Rattle.strokes.proofs.spans.visible_span.Tie as tie
 
@@ -42,7 +42,7 @@ span-of-requires c κs =
     let q = l .before .before .before .before in
     let s = q .before .before in
     rw (l .line-steps .ensures, q .point-of2 .ensures, q .before .point-of .ensures)
-    (s .pre .0, steps-lt _ _, x-within _ .high, x-within _ .high, x-slope _ _)
+    (x-axis _ _ (s .pre .0))
 
 returns-2 : tie.Need-returns-2
 returns-2 c =
@@ -59,7 +59,7 @@ span-of-requires-2 c κs =
     let q = l .before .before .before .before in
     let s = q .before .before in
     rw (l .line-steps .ensures, q .point-of2 .ensures, q .before .point-of .ensures)
-    (s .pre .0, steps-lt _ _, y-within _ .high, y-within _ .high, y-slope _ _)
+    (y-axis _ _ (s .pre .0))
 
 larger-requires : tie.Need-larger-requires
 larger-requires c κs = search needs

@@ -14,7 +14,7 @@ few : (c : tie.Start) → let a = c .args in ((a .n - a .i) * a .a < 8589934592)
 few c = (product-lt _ _ (omega arith) (omega arith), product-lt _ _ (omega arith) (omega arith))
 
 cut : (c : tie.Start) → let a = c .args in Whole (a .n) (exact (a .n) (a .i) (a .a) (a .b))
-cut c = let a = c .args in whole (a .n) (exact (a .n) (a .i) (a .a) (a .b)) (c .pre .0)
+cut c = let a = c .args in whole (a .n) (exact (a .n) (a .i) (a .a) (a .b)) (c .pre .0 .some)
 
 sub-e : tie.Need-sub-e
 sub-e c = search needs
@@ -71,10 +71,10 @@ mul-t23 : tie.Need-mul-t23
 mul-t23 c = search needs
 
 returns : tie.Need-returns
-returns c = starts-up _ _ _ _ (c .before .pre .0) (omega arith) (c .if1 .taken)
+returns c = starts-up _ _ _ _ (c .before .pre .0 .some) (omega arith) (c .if1 .taken)
 
 returns-2 : tie.Need-returns-2
-returns-2 c = starts-down _ _ _ _ (c .before .pre .0) (omega arith) (omega arith)
+returns-2 c = starts-down _ _ _ _ (c .before .pre .0 .some) (omega arith) (omega arith)
 
 pub stepper-at-spec : {M : Type 1} → statement M
 stepper-at-spec =

@@ -1,11 +1,10 @@
 -- `strokes::tracers::tracer_at` meets its contract. What `stepper_at` ensures for each axis, with points and steps written
--- out, is `Traces` (`traces-of`); coordinates and steps are small enough for it (`x-within`, `y-within`, `steps-lt`).
+-- out, is `Traces` (`traces-of`); each axis of a line is one that it takes (`x-axis`, `y-axis`).
 -- Assumes nothing.
 use native.Mathlib.Omega.{arith}
 use borrow.Author.Needs.{needs}
-use Rattle.geometry.proofs.Whole.{x-within, y-within}
 use Rattle.geometry.proofs.Lines.{steps-lt}
-use Rattle.strokes.proofs.Traced.{traces-of}
+use Rattle.strokes.proofs.Traced.{x-axis, y-axis, traces-of}
 use Rattle.strokes.proofs.tracers.tracer_at.Statement.{statement}
 use Rattle.strokes.proofs.tracers.tracer_at.Tie as tie
 
@@ -22,14 +21,14 @@ stepper-at-requires : tie.Need-stepper-at-requires
 stepper-at-requires c κs =
     let s = c .before .before .before in
     rw (c .line-steps .ensures, c .before .point-of2 .ensures, c .before .before .point-of .ensures)
-    (s .pre .0, steps-lt _ _, s .pre .1, x-within _ .high, x-within _ .high, omega arith)
+    (x-axis _ _ (s .pre .0), s .pre .1)
 
 stepper-at-requires-2 : tie.Need-stepper-at-requires-2
 stepper-at-requires-2 c κs =
     let o = c .before in
     let s = o .before .before .before in
     rw (o .line-steps .ensures, o .before .point-of2 .ensures, o .before .before .point-of .ensures)
-    (s .pre .0, steps-lt _ _, s .pre .1, y-within _ .high, y-within _ .high, omega arith)
+    (y-axis _ _ (s .pre .0), s .pre .1)
 
 mul-t9 : tie.Need-mul-t9
 mul-t9 c =
