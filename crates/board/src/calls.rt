@@ -20,10 +20,7 @@ impl Board {
     {
         let free = Slot {
             taken: false,
-            span: Span {
-                start: 0,
-                count: 0,
-            },
+            span: Span { start: 0, count: 0 },
         };
         Board {
             sizes: z,

@@ -26,10 +26,7 @@ impl Board {
             active: Active::on(p),
             pending: Slot {
                 taken: false,
-                span: Span {
-                    start: 0,
-                    count: 0,
-                },
+                span: Span { start: 0, count: 0 },
             },
             engine: e,
         }

@@ -36,13 +36,7 @@ fn pixels_left(count: usize, visited: u32) -> u64
 }
 
 // The pixels of the command under way, as many as the budget allows.
-fn visit_up_to(
-    e: Engine,
-    extent: Extent,
-    budget: u64,
-    display: &mut [u8],
-    virt: &mut [u8],
-) -> Burst
+fn visit_up_to(e: Engine, extent: Extent, budget: u64, display: &mut [u8], virt: &mut [u8]) -> Burst
     requires { ⌜ (e .«under_way» ≡ true) × (0 < budget) ⌝ }
     ensures { λ r. ⌜ VisitsDone budget extent (scene e (now (display .entry)) (now (virt .entry))) (r .steps) (scene (r .engine) (now (display .exit)) (now (virt .exit))) ⌝ }
 {

@@ -131,14 +131,7 @@ fn less(a: usize, b: usize) -> usize
 }
 
 // Whether n pixels of `count`, no more than are left, can be visited at once on these buffers.
-fn can_leap(
-    e: Engine,
-    extent: Extent,
-    count: usize,
-    n: usize,
-    display: usize,
-    virt: usize,
-) -> bool
+fn can_leap(e: Engine, extent: Extent, count: usize, n: usize, display: usize, virt: usize) -> bool
     requires { ⌜ count ≡ countOf extent e ⌝ }
     ensures { λ r. ⌜ r ≡ canLeap extent e n display virt ⌝ }
 {
@@ -193,7 +186,17 @@ fn stroke(e: Engine, extent: Extent, n: usize, buffer: &mut [u8]) -> Pattern
         clear: c.trnsp,
         control: pattern_control_of(g.pctrl),
     };
-    draw_dashes(buffer, extent.width, window, dashes, p, start, g.xy1, first, n)
+    draw_dashes(
+        buffer,
+        extent.width,
+        window,
+        dashes,
+        p,
+        start,
+        g.xy1,
+        first,
+        n,
+    )
 }
 
 // n pixels of a line visited, by its error term.

@@ -1,4 +1,3 @@
-pub mod Stays
 pub mod Abstract
 pub mod Kept
 pub mod Posting

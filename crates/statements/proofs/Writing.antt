@@ -10,33 +10,34 @@ use lib.Dec.{eqb, leb}
 use lib.ListN.{length}
 use Rattle.lemmas.proofs.Booleans.{by-cases, or-none-left, or-none-right}
 use Rattle.commands.specs.Steps.{Scene, scene}
-use Rattle.slots.specs.Answers.{told}
-use Rattle.slots.specs.Slots.{cursorOn}
-use Rattle.slots.specs.Calls.{putInto, Lent, writeHeard}
+use Rattle.answers.specs.Reports.{report}
+use Rattle.lemmas.specs.Memory.{putInto}
+use Rattle.lemmas.proofs.Memories.{put-length}
+use Rattle.slots.specs.Slots.{areaOf, activeOn, slotOf}
+use Rattle.slots.specs.Calls.{Lent, writeReport}
 use Rattle.slots.proofs.Grounds.{write-wrong-size, write-past, write-busy, write-done}
 use Rattle.board.specs.Calls.{Written, kept, keptBy, writeCall}
 use Rattle.board.proofs.Replies.{write-by}
-use Rattle.sequence.specs.Paper.{write, window, paper, writtenTo, flushed, fed}
-use Rattle.sequence.specs.World.{World, world, Called, called}
-use Rattle.sequence.proofs.Stays.{put-length}
-use Rattle.sequence.proofs.Abstract.{queueOf, Valid}
-use Rattle.sequence.proofs.Kept.{Kept, refused, no-items}
+use Rattle.statements.specs.Paper.{write, window, paper, writtenTo, flushed, fed}
+use Rattle.statements.specs.World.{World, world, Called, called}
+use Rattle.statements.proofs.Abstract.{queueOf, Valid}
+use Rattle.statements.proofs.Kept.{Kept, refused, no-items}
 
 module _ (w : World) (v : Valid w) (number offset : ℕ) (bytes : List ℕ) where
   -- a board at rest has an empty queue
-  idle-queue : (w .board .active .slot .taken || w .board .pending .taken) ≡ false → queueOf (w .list) (w .board) ≡ []
+  idle-queue : (w .board .active .taken || w .board .pending .taken) ≡ false → queueOf (w .list) (w .board) ≡ []
   idle-queue u =
       let b = w .board in
-      ap₂ _++_ (no-items (w .list) (b .active) (or-none-left (b .active .slot .taken) (b .pending .taken) u))
-      (no-items (w .list) (cursorOn (b .pending)) (or-none-right (b .active .slot .taken) (b .pending .taken) u))
+      ap₂ _++_ (no-items (w .list) (b .active) (or-none-left (b .active .taken) (b .pending .taken) u))
+      (no-items (w .list) (activeOn (b .pending)) (or-none-right (b .active .taken) (b .pending .taken) u))
 
   write-refused : (answer : ℕ) → (answer ≡ 0 → ⊥) → (answer ≡ 1 → ⊥) → (answer ≡ 9 → ⊥)
-      → Kept w (write number offset bytes) (record { heard = kept answer (w .board) (w .list) .heard; after = w })
+      → Kept w (write number offset bytes) (record { report = kept answer (w .board) (w .list) .report; after = w })
   unfolding fed
-  write-refused answer a b c = refused w v (write number offset bytes) (told answer 0 0) refl a b c
+  write-refused answer a b c = refused w v (write number offset bytes) (report answer 0 0) refl a b c
 
   -- the queue is empty and the write is done at once
-  written-at-once : (s : Scene) → (w .board .active .slot .taken || w .board .pending .taken) ≡ false
+  written-at-once : (s : Scene) → (w .board .active .taken || w .board .pending .taken) ≡ false
       → writtenTo number offset bytes (scene (w .board .engine) (w .display) (w .virt)) ≡ s
       → flushed (scene (w .board .engine) (w .display) (w .virt)) (w .list) (queueOf (w .list) (w .board) ++ (window number offset bytes ∷ []))
       ≡ paper s (w .list) (queueOf (w .list) (w .board))
@@ -50,19 +51,19 @@ module _ (w : World) (v : Valid w) (number offset : ℕ) (bytes : List ℕ) wher
   write-checked : (buffer : List ℕ) → (lent : Written → Called)
       → ((answer : ℕ) → (answer ≡ 0 → ⊥) → (answer ≡ 1 → ⊥) → (answer ≡ 9 → ⊥)
       → Kept w (write number offset bytes) (lent (kept answer (w .board) buffer)))
-      → (offset + length bytes ≤ w .board .sizes .width * w .board .sizes .height
-      → (w .board .active .slot .taken || w .board .pending .taken) ≡ false
+      → (offset + length bytes ≤ areaOf (w .board .sizes)
+      → (w .board .active .taken || w .board .pending .taken) ≡ false
       → Kept w (write number offset bytes) (lent (kept 0 (w .board) (putInto buffer offset bytes))))
       → Kept w (write number offset bytes) (lent (writeCall number offset bytes buffer (w .board)))
   write-checked buffer lent refused done =
       let b = w .board in
       let z = b .sizes in
-      let s = b .active .slot in
+      let s = slotOf (b .active) in
       let q = b .pending in
-      let pixels = z .width * z .height in
+      let pixels = areaOf z in
       let K : Lent → Type 0 = λ m. Kept w (write number offset bytes) (lent (keptBy b m)) in
       subst (λ r. Kept w (write number offset bytes) (lent r))
-      (write-by number offset bytes buffer b (v .well) (writeHeard z s q number offset bytes buffer) refl)
+      (write-by number offset bytes buffer b (v .well) (writeReport z s q number offset bytes buffer) refl)
       (by-cases (leb number 1 && eqb (length buffer) pixels)
       (λ t.
       by-cases (leb (offset + length bytes) pixels)
@@ -77,16 +78,16 @@ module _ (w : World) (v : Valid w) (number offset : ℕ) (bytes : List ℕ) wher
       (λ t. subst K (write-wrong-size z s q number offset bytes buffer t) (refused 2 (λ e. omega arith) (λ e. omega arith) (λ e. omega arith))))
 
   abbrev toDisplay : Written → Called
-  toDisplay r = record { heard = r .heard; after = world (r .board) (w .list) (r .memory) (w .virt) }
+  toDisplay r = record { report = r .report; after = world (r .board) (w .list) (r .memory) (w .virt) }
 
   abbrev toVirtual : Written → Called
-  toVirtual r = record { heard = r .heard; after = world (r .board) (w .list) (w .display) (r .memory) }
+  toVirtual r = record { report = r .report; after = world (r .board) (w .list) (w .display) (r .memory) }
 
   -- a done write: buffers of the same lengths, as the paper board writes them
   write-puts : (d e : List ℕ) → length d ≡ length (w .display) → length e ≡ length (w .virt)
-      → (w .board .active .slot .taken || w .board .pending .taken) ≡ false
+      → (w .board .active .taken || w .board .pending .taken) ≡ false
       → writtenTo number offset bytes (scene (w .board .engine) (w .display) (w .virt)) ≡ scene (w .board .engine) d e
-      → Kept w (write number offset bytes) (record { heard = told 0 0 0; after = world (w .board) (w .list) d e })
+      → Kept w (write number offset bytes) (record { report = report 0 0 0; after = world (w .board) (w .list) d e })
   unfolding fed
   write-puts d e d-long e-long u same =
       record {
@@ -104,8 +105,8 @@ module _ (w : World) (v : Valid w) (number offset : ℕ) (bytes : List ℕ) wher
         no-nine = λ h. omega arith;
       }
 
-  display-done : eqb number 0 ≡ true → offset + length bytes ≤ w .board .sizes .width * w .board .sizes .height
-      → (w .board .active .slot .taken || w .board .pending .taken) ≡ false
+  display-done : eqb number 0 ≡ true → offset + length bytes ≤ areaOf (w .board .sizes)
+      → (w .board .active .taken || w .board .pending .taken) ≡ false
       → Kept w (write number offset bytes) (toDisplay (kept 0 (w .board) (putInto (w .display) offset bytes)))
   display-done t fits u =
       let d = putInto (w .display) offset bytes in
@@ -113,8 +114,8 @@ module _ (w : World) (v : Valid w) (number offset : ℕ) (bytes : List ℕ) wher
       write-puts d (w .virt) (put-length (w .display) offset bytes (omega (arith, v .display-long))) refl u
       (ap (λ t. cond t (scene e d (w .virt)) (scene e (w .display) (putInto (w .virt) offset bytes))) t)
 
-  virtual-done : eqb number 0 ≡ false → offset + length bytes ≤ w .board .sizes .width * w .board .sizes .height
-      → (w .board .active .slot .taken || w .board .pending .taken) ≡ false
+  virtual-done : eqb number 0 ≡ false → offset + length bytes ≤ areaOf (w .board .sizes)
+      → (w .board .active .taken || w .board .pending .taken) ≡ false
       → Kept w (write number offset bytes) (toVirtual (kept 0 (w .board) (putInto (w .virt) offset bytes)))
   virtual-done t fits u =
       let d = putInto (w .virt) offset bytes in

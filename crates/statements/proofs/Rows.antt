@@ -5,7 +5,7 @@ use Rattle.geometry.proofs.Examples.{p4, p5, p6}
 use Rattle.registers.proofs.Examples.{p7}
 use Rattle.entries.proofs.Examples.{p8, p11, p12}
 use Rattle.commands.proofs.Examples.{p9, p10}
-use Rattle.sequence.specs.Examples.{BoardsToCheck}
+use Rattle.statements.specs.Examples.{BoardsToCheck}
 
 pub boards-to-check : BoardsToCheck
 boards-to-check =

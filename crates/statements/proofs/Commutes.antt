@@ -7,33 +7,33 @@ use native.Mathlib.Omega.{arith}
 use borrow.Author.Tests.{eq-eqb}
 use lib.ListN.{length}
 use Rattle.lemmas.proofs.Booleans.{both}
-use Rattle.slots.specs.Slots.{lentOk}
+use Rattle.slots.specs.Slots.{areaOf, lentOk}
 use Rattle.board.specs.Runs.{Outcome, runOf, runCall}
-use Rattle.board.specs.Left.{stepsLeft, costOf, pixelsLeft, lastOnceDone}
+use Rattle.commands.specs.Wholes.{stepsOf}
 use Rattle.board.proofs.Forms.{good-of}
 use Rattle.board.proofs.Counts.{lesser}
 use Rattle.board.proofs.Refused.{run-accepted}
-use Rattle.sequence.specs.Paper.{Call, post, store, write, run, fed, stepsToEmpty}
-use Rattle.sequence.specs.World.{World, Called, called}
-use Rattle.sequence.specs.Demand.{Reports}
-use Rattle.sequence.proofs.Abstract.{paperOf, Valid, machineOf, onto, Runs, runs, queue-to-come}
-use Rattle.sequence.proofs.Kept.{Kept}
-use Rattle.sequence.proofs.Posting.{post-kept}
-use Rattle.sequence.proofs.Storing.{store-kept}
-use Rattle.sequence.proofs.Writing.{write-kept}
+use Rattle.statements.specs.Paper.{Call, post, store, write, run, fed, stepsToEmpty}
+use Rattle.statements.specs.World.{World, Called, called}
+use Rattle.statements.specs.Demand.{Reports}
+use Rattle.statements.proofs.Abstract.{paperOf, Valid, machineOf, onto, Runs, runs, queue-to-come}
+use Rattle.statements.proofs.Kept.{Kept}
+use Rattle.statements.proofs.Posting.{post-kept}
+use Rattle.statements.proofs.Storing.{store-kept}
+use Rattle.statements.proofs.Writing.{write-kept}
 
 -- ---- run
 lent-right : (w : World) → Valid w → lentOk (w .board .sizes) (length (w .list)) (length (w .display)) (length (w .virt)) ≡ true
 lent-right w v =
     let z = w .board .sizes in
-    both (both (eq-eqb (length (w .list)) (5 * z .entries) (v .list-long)) (eq-eqb (length (w .display)) (z .width * z .height) (v .display-long)))
-    (eq-eqb (length (w .virt)) (z .width * z .height) (v .virt-long))
+    both (both (eq-eqb (length (w .list)) (5 * z .entries) (v .list-long)) (eq-eqb (length (w .display)) (areaOf z) (v .display-long)))
+    (eq-eqb (length (w .virt)) (areaOf z) (v .virt-long))
 
 run-is : (budget : ℕ) (w : World) → Valid w → runOf budget (w .list) (machineOf w) ≡ runCall budget (w .list) (machineOf w)
 run-is budget w v = run-accepted budget (w .list) (machineOf w) (v .well) (lent-right w v) (runOf budget (w .list) (machineOf w)) refl
 
 abbrev ranOf : World → Outcome → Called
-ranOf w o = record { heard = o .heard; after = onto w (o .after) }
+ranOf w o = record { report = o .report; after = onto w (o .after) }
 
 ran-kept : (w : World) (budget : ℕ) (o : Outcome) → Runs w o → Kept w (run budget) (ranOf w o)
 unfolding fed
@@ -59,17 +59,15 @@ keeps (store first bytes) w v = store-kept w v first bytes
 keeps (write number offset bytes) w v = write-kept w v number offset bytes
 keeps (run budget) w v = run-kept w v budget
 
-run-reports : (w : World) (budget : ℕ) → Valid w → (o : Outcome) → o ≡ runOf budget (w .list) (machineOf w) → o .heard .number ≡ 0
-    → o .heard .steps ≡ min budget (stepsToEmpty (paperOf w))
-unfolding stepsLeft
+run-reports : (w : World) (budget : ℕ) → Valid w → (o : Outcome) → o ≡ runOf budget (w .list) (machineOf w) → o .report .number ≡ 0
+    → o .report .steps ≡ min budget (stepsToEmpty (w .board .sizes .extent) (paperOf w))
 run-reports w budget v o e z =
     let b = w .board in
-    let en = b .engine in
-    ap (λ o. o .heard .steps) e
-    ∙ lesser budget (w .list) (machineOf w) (v .well) (ap (λ o. o .heard .number) (sym e) ∙ z)
-    ∙ ap (λ es. min budget (pixelsLeft en + costOf (en .registers) (lastOnceDone en) es)) (sym (queue-to-come (w .list) b (good-of b (v .well))))
+    ap (λ o. o .report .steps) e
+    ∙ lesser budget (w .list) (machineOf w) (v .well) (ap (λ o. o .report .number) (sym e) ∙ z)
+    ∙ ap (λ es. min budget (stepsOf (b .sizes .extent) (paperOf w .drawing) es)) (sym (queue-to-come (w .list) b (good-of b (v .well))))
 
-pub reports : (c : Call) (w : World) → Valid w → Reports c (called c w) (paperOf w)
+pub reports : (c : Call) (w : World) → Valid w → Reports (w .board .sizes .extent) c (called c w) (paperOf w)
 unfolding called
 reports (post start count) w v = tt
 reports (store first bytes) w v = tt

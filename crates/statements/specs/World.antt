@@ -3,12 +3,12 @@ use mathlib.Core.Bool.{cond}
 use mathlib.Core.List.{List}
 use Prim.Native.Nat.{ℕ}
 use lib.Dec.{eqb}
-use Rattle.slots.specs.Answers.{Told}
+use Rattle.answers.specs.Reports.{Report}
 use Rattle.board.specs.Steps.{machine}
 use Rattle.board.specs.Runs.{runCall}
 use Rattle.board.specs.Calls.{postCall, storeCall, writeCall}
 use Rattle.board.specs.declared.record.Board.{Board}
-use Rattle.sequence.specs.Paper.{Call, post, store, write, run}
+use Rattle.statements.specs.Paper.{Call, post, store, write, run}
 
 pub record World : Type 0 where
   pub board : Board
@@ -20,22 +20,22 @@ abbrev pub world : Board → List ℕ → List ℕ → List ℕ → World
 world b l d v = record { board = b; list = l; display = d; virt = v }
 
 pub record Called : Type 0 where
-  pub heard : Told
+  pub report : Report
   pub after : World
 
 -- "Post and store are lent the list memory, a window write the named buffer, a run all three."
 unfoldable pub called : Call → World → Called
 called (post start count) w =
     let r = postCall (w .list) start count (w .board) in
-    record { heard = r .heard; after = world (r .board) (w .list) (w .display) (w .virt) }
+    record { report = r .report; after = world (r .board) (w .list) (w .display) (w .virt) }
 called (store first bytes) w =
     let r = storeCall (w .list) first bytes (w .board) in
-    record { heard = r .heard; after = world (r .board) (r .memory) (w .display) (w .virt) }
+    record { report = r .report; after = world (r .board) (r .memory) (w .display) (w .virt) }
 called (write number offset bytes) w =
     let d = writeCall number offset bytes (w .display) (w .board) in
     let v = writeCall number offset bytes (w .virt) (w .board) in
-    cond (eqb number 0) (record { heard = d .heard; after = world (d .board) (w .list) (d .memory) (w .virt) })
-    (record { heard = v .heard; after = world (v .board) (w .list) (w .display) (v .memory) })
+    cond (eqb number 0) (record { report = d .report; after = world (d .board) (w .list) (d .memory) (w .virt) })
+    (record { report = v .report; after = world (v .board) (w .list) (w .display) (v .memory) })
 called (run budget) w =
     let r = runCall budget (w .list) (machine (w .board) (w .display) (w .virt)) in
-    record { heard = r .heard; after = world (r .after .board) (w .list) (r .after .display) (r .after .virt) }
+    record { report = r .report; after = world (r .after .board) (w .list) (r .after .display) (r .after .virt) }

@@ -1,0 +1,39 @@
+-- What every call keeps: the world valid, and equal to the paper board that was fed the call.
+-- Assumes nothing.
+use mathlib.Core.Path.{_≡_, refl, ap, _∙_}
+use mathlib.Core.Bool.{false, cond}
+use mathlib.Core.List.{List, [], _∷_}
+use Prim.Native.Nat.{ℕ}
+use borrow.Author.Tests.{ne-eqb}
+use lib.Dec.{eqb}
+use Rattle.answers.specs.Reports.{Report}
+use Rattle.lists.specs.Cursors.{restOf}
+use Rattle.slots.specs.declared.record.Active.{Active}
+use Rattle.statements.specs.Paper.{Call, posted, fed}
+use Rattle.statements.specs.World.{World, Called}
+use Rattle.statements.proofs.Abstract.{itemsOf, paperOf, Valid}
+
+pub record Kept (w : World) (c : Call) (o : Called) : Type 0 where
+  pub valid : Valid (o .after)
+  pub sizes-same : o .after .board .sizes ≡ w .board .sizes
+  pub paper-same : fed (w .board .sizes .extent) c (eqb (o .report .number) 0) (o .report .steps) (paperOf w) ≡ paperOf (o .after)
+  pub not-malformed : o .report .number ≡ 1 → ⊥
+  pub no-nine : o .report .number ≡ 9 → ⊥
+
+-- a slot that is not taken has no items and no entries
+pub no-items : (l : List ℕ) (a : Active) → a .taken ≡ false → itemsOf l a ≡ []
+no-items l a t = ap (λ t. cond t (posted (a .cursor .span) (restOf l (a .cursor)) ∷ []) []) t
+
+-- a refusal changes nothing
+pub refused : (w : World) → Valid w → (c : Call) (report : Report)
+    → fed (w .board .sizes .extent) c false (report .steps) (paperOf w) ≡ paperOf w → (report .number ≡ 0 → ⊥)
+    → (report .number ≡ 1 → ⊥) → (report .number ≡ 9 → ⊥) → Kept w c (record { report = report; after = w })
+refused w v c report e done malformed nine =
+    record {
+      valid = v;
+      sizes-same = refl;
+      paper-same =
+          ap (λ t. fed (w .board .sizes .extent) c t (report .steps) (paperOf w)) (ne-eqb (report .number) 0 done) ∙ e;
+      not-malformed = malformed;
+      no-nine = nine;
+    }
