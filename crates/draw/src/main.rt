@@ -1,10 +1,10 @@
 // Document 01's program: entries on standard input are posted on a zeroed 8 by 4 board and run; the answer, the steps and
 // the display's rows are printed.
+use answers::Status;
 use board::Answer;
 use board::Board;
 use libc::STDIN_FILENO;
 use libc::STDOUT_FILENO;
-use slots::Heard;
 
 // The call that refuses the input, or the run. `more` is what follows the first 20,480 bytes.
 fn draw(list: &[u8], read: usize, more: usize, display: &mut [u8], virt: &mut [u8]) -> Answer {
@@ -12,28 +12,27 @@ fn draw(list: &[u8], read: usize, more: usize, display: &mut [u8], virt: &mut [u
     let b = made.board;
     if (0 < more) | (read % 5 != 0) {
         return Answer {
-            heard: Heard::WrongSize,
+            status: Status::WrongSize,
             board: b,
         };
     }
     let posted = b.post(list, 0, read / 5);
-    let heard = posted.heard;
+    let status = posted.status;
     let after = posted.board;
-    match heard {
-        Heard::Done(_) => after.run(1000000, list, display, virt),
+    match status {
+        Status::Done(_) => after.run(1000000, list, display, virt),
         _ => posted,
     }
 }
 
 fn print_answer(a: Answer) {
-    let heard = a.heard;
+    let status = a.status;
     let b = a.board;
-    let c = b.active;
-    let s = c.slot;
+    let s = b.active;
     io::write_all(STDOUT_FILENO, b"answer ");
-    io::print_decimal(STDOUT_FILENO, heard.number() as u64);
+    io::print_decimal(STDOUT_FILENO, status.number() as u64);
     io::write_all(STDOUT_FILENO, b" steps ");
-    io::print_decimal(STDOUT_FILENO, heard.steps());
+    io::print_decimal(STDOUT_FILENO, status.steps());
     if s.taken {
         io::write_all(STDOUT_FILENO, b" paused\n");
     } else {

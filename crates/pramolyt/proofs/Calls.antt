@@ -5,11 +5,11 @@ use mathlib.Core.Bool.{Bool, true, false, not}
 use mathlib.Core.List.{List}
 use Prim.Native.Nat.{ℕ}
 use borrow.Author.Tests.{not-true, not-false}
-use Rattle.slots.specs.Answers.{toldOf}
+use Rattle.answers.specs.Reports.{reportOf}
 use Rattle.board.specs.Calls.{reply, makeCall, postCall, written, storeCall, writeCall}
 use Rattle.board.specs.Steps.{machine}
 use Rattle.board.specs.Runs.{outcome, runCall}
-use Rattle.board.specs.declared.answers.Answer.{Answer}
+use Rattle.board.specs.declared.answer.Answer.{Answer}
 use Rattle.board.specs.declared.record.Board.{Board}
 use Rattle.pramolyt.specs.Image.{wordsOf, boardOf, flagsOk}
 use Rattle.pramolyt.specs.Exports.{ofImage, made, madeBy, makeImage, posted, postedBy, postImage, changed, changedBy, storeImage, writeImage, ran, ranBy, runImage}
@@ -38,7 +38,7 @@ module _ (w : List ℕ) (t : Bool) (judged : t ≡ flagsOk w) (bad : not t ≡ t
       refused (ranBy (runCall budget list (machine (boardOf w) display virt))) (ran 1 w 0 display virt)
 
 -- an answer handed back
-module _ (a : Answer) (words : List ℕ) (encoded : words ≡ wordsOf (a .board)) (number : ℕ) (numbered : number ≡ toldOf (a .heard) .number) where
+module _ (a : Answer) (words : List ℕ) (encoded : words ≡ wordsOf (a .board)) (number : ℕ) (numbered : number ≡ reportOf (a .status) .number) where
   pub make-done : (width height entries : ℕ) → reply a ≡ makeCall width height entries → made number words ≡ makeImage width height entries
   unfolding makeImage
   make-done width height entries answered = rw (encoded, numbered) (ap madeBy answered)
@@ -50,7 +50,7 @@ module _ (a : Answer) (words : List ℕ) (encoded : words ≡ wordsOf (a .board)
     done handed call r answered stays = rw (← judged, not-false t good, answered, decoded)
 
     pub post-done : (list : List ℕ) (start count : ℕ) → reply a ≡ postCall list start count b → (place : ℕ)
-        → place ≡ toldOf (a .heard) .place → posted number words place ≡ postImage w list start count
+        → place ≡ reportOf (a .status) .place → posted number words place ≡ postImage w list start count
     unfolding postImage
     post-done list start count answered place placed =
         rw (encoded, numbered, placed) (done postedBy (postCall list start count) (reply a) answered (posted 1 w 0))
@@ -68,7 +68,7 @@ module _ (a : Answer) (words : List ℕ) (encoded : words ≡ wordsOf (a .board)
         rw (encoded, numbered) (done changedBy (writeCall n offset bytes buffer) (written a memory) answered (changed 1 w buffer))
 
     pub run-done : (budget : ℕ) (list display virt d v : List ℕ) → outcome a d v ≡ runCall budget list (machine b display virt)
-        → (steps : ℕ) → steps ≡ toldOf (a .heard) .steps → ran number words steps d v ≡ runImage w budget list display virt
+        → (steps : ℕ) → steps ≡ reportOf (a .status) .steps → ran number words steps d v ≡ runImage w budget list display virt
     unfolding runImage
     run-done budget list display virt d v answered steps stepped =
         rw (encoded, numbered, stepped)

@@ -6,23 +6,23 @@ use mathlib.Core.List.{List}
 use Prim.Native.Nat.{ℕ, zero, suc}
 use borrow.Author.Tests.{ne-eqb}
 use lib.ListN.{length}
-use Rattle.slots.specs.Slots.{lentOk}
-use Rattle.slots.specs.Calls.{postHeard}
+use Rattle.slots.specs.Slots.{lentOk, slotOf}
+use Rattle.slots.specs.Calls.{postReport}
 use Rattle.slots.proofs.Grounds.{store-leaves, write-leaves}
 use Rattle.board.specs.Record.{wellFormed}
 use Rattle.board.specs.Calls.{Reply, postedOf, postCall, Written, storeCall, writeCall}
-use Rattle.board.specs.Steps.{Machine, machine, nextOf}
+use Rattle.board.specs.Steps.{Machine, machine, nextOn}
 use Rattle.board.specs.Runs.{Outcome, ended, byNext, runOf, runCall}
 use Rattle.board.specs.declared.record.Board.{Board}
-use Rattle.leaps.specs.declared.stretches.Next.{Next}
-use Rattle.leaps.specs.declared.stretches.Next.the-variants.{Idle, Visit, Take, Broken}
-use Rattle.pramolyt.specs.Image.{wordsOf, boardOf, flagsOk}
+use Rattle.lists.specs.declared.cursors.Next.{Next}
+use Rattle.lists.specs.declared.cursors.Next.the-variants.{Ended, Visit, Take, Broken}
+use Rattle.pramolyt.specs.Image.{words, wordsOf, boardOf, flagsOk}
 use Rattle.pramolyt.specs.Exports.{ofImage, Posted, postImage, Changed, changed, changedBy, storeImage, writeImage, Ran, runImage, RefusedPost, RefusedStore, RefusedWrite, RefusedRun}
 use Rattle.pramolyt.proofs.RoundTrips.{encodes-decoded}
 
 -- ---- of a record, by the tests that a call passes
 abbrev Given : Board → Reply → Type 0
-Given b r = (r .heard .number ≡ 0 → ⊥) → r .board ≡ b
+Given b r = (r .report .number ≡ 0 → ⊥) → r .board ≡ b
 
 by : {A : Type 0} (P : A → Type 0) (t : Bool) {x y : A} → P x → P y → P (cond t x y)
 by P true p q = p
@@ -31,29 +31,29 @@ by P false p q = q
 post-given : (list : List ℕ) (start count : ℕ) (b : Board) → Given b (postCall list start count b)
 unfolding postCall
 post-given list start count b =
-    let t = postHeard (b .sizes) (b .active .slot) (b .pending) list start count in
+    let t = postReport (b .sizes) (slotOf (b .active)) (b .pending) list start count in
     by (Given b) (wellFormed b) (λ n. ap (λ x. cond x (postedOf b start count) b) (ne-eqb (t .number) 0 n)) (λ n. refl)
 
 abbrev Stays : Board → List ℕ → Written → Type 0
-Stays b memory r = (r .heard .number ≡ 0 → ⊥) → (r .board ≡ b) × (r .memory ≡ memory)
+Stays b memory r = (r .report .number ≡ 0 → ⊥) → (r .board ≡ b) × (r .memory ≡ memory)
 
 store-stays : (list : List ℕ) (first : ℕ) (bytes : List ℕ) (b : Board) → Stays b list (storeCall list first bytes b)
 unfolding storeCall
 store-stays list first bytes b =
-    by (Stays b list) (wellFormed b) (λ n. (refl, store-leaves (b .sizes) (b .active .slot) (b .pending) list first bytes n)) (λ n. (refl, refl))
+    by (Stays b list) (wellFormed b) (λ n. (refl, store-leaves (b .sizes) (slotOf (b .active)) (b .pending) list first bytes n)) (λ n. (refl, refl))
 
 write-stays : (number offset : ℕ) (bytes buffer : List ℕ) (b : Board) → Stays b buffer (writeCall number offset bytes buffer b)
 unfolding writeCall
 write-stays number offset bytes buffer b =
-    by (Stays b buffer) (wellFormed b) (λ n. (refl, write-leaves (b .sizes) (b .active .slot) (b .pending) number offset bytes buffer n))
+    by (Stays b buffer) (wellFormed b) (λ n. (refl, write-leaves (b .sizes) (slotOf (b .active)) (b .pending) number offset bytes buffer n))
     (λ n. (refl, refl))
 
 -- a run that takes steps answers 0 or 9
 abbrev Goes : Outcome → Type 0
-Goes o = (o .heard .number ≡ 0 → ⊥) → (o .heard .number ≡ 9 → ⊥) → ⊥
+Goes o = (o .report .number ≡ 0 → ⊥) → (o .report .number ≡ 9 → ⊥) → ⊥
 
 goes-by : (x : Next) (m : Machine) (more : Outcome) → Goes more → Goes (byNext x m more)
-goes-by Idle m more g n k = n refl
+goes-by Ended m more g n k = n refl
 goes-by Visit m more g n k = g n k
 goes-by (Take e) m more g n k = g n k
 goes-by Broken m more g n k = k refl
@@ -61,10 +61,10 @@ goes-by Broken m more g n k = k refl
 run-goes : (budget : ℕ) (l : List ℕ) (m : Machine) → Goes (runOf budget l m)
 unfolding runOf
 run-goes zero l m = λ n k. n refl
-run-goes (suc budget) l m = goes-by (nextOf l (m .board)) m _ (run-goes budget l _)
+run-goes (suc budget) l m = goes-by (nextOn l (m .board)) m _ (run-goes budget l _)
 
 abbrev Halts : Machine → Outcome → Type 0
-Halts m o = (o .heard .number ≡ 0 → ⊥) → (o .heard .number ≡ 9 → ⊥) → o .after ≡ m
+Halts m o = (o .report .number ≡ 0 → ⊥) → (o .report .number ≡ 9 → ⊥) → o .after ≡ m
 
 halts-by : (m : Machine) (o : Outcome) → Goes o → (well lent : Bool) → Halts m (cond well (cond lent o (ended 2 m)) (ended 1 m))
 halts-by m o g false lent n k = refl
@@ -84,7 +84,7 @@ judged P w {done} {stays} p q = for (flagsOk w) refl
     for true e = p e
     for false e = q
 
-same : (w : List ℕ) → length w ≡ 28 → flagsOk w ≡ true → {b : Board} → b ≡ boardOf w → wordsOf b ≡ w
+same : (w : List ℕ) → length w ≡ words → flagsOk w ≡ true → {b : Board} → b ≡ boardOf w → wordsOf b ≡ w
 same w long ok e = ap wordsOf e ∙ encodes-decoded w long ok
 
 pub refused-post : RefusedPost
@@ -92,7 +92,7 @@ unfolding postImage
 refused-post w list start count long =
     judged (λ (r : Posted). (r .number ≡ 0 → ⊥) → r .words ≡ w) w (λ ok n. same w long ok (post-given list start count (boardOf w) n)) (λ n. refl)
 
-changed-refused : (w memory : List ℕ) → length w ≡ 28 → (r : Written) → Stays (boardOf w) memory r
+changed-refused : (w memory : List ℕ) → length w ≡ words → (r : Written) → Stays (boardOf w) memory r
     → let c = ofImage w (changedBy r) (changed 1 w memory) in (c .number ≡ 0 → ⊥) → (c .words ≡ w) × (c .memory ≡ memory)
 changed-refused w memory long r s =
     judged (λ (c : Changed). (c .number ≡ 0 → ⊥) → (c .words ≡ w) × (c .memory ≡ memory)) w

@@ -22,7 +22,7 @@ flag-encoded (suc zero) h = refl
 flag-encoded (suc (suc x)) h = let k : suc (suc x) < 2 = ltb-true _ _ h in absurd (omega arith)
 
 pub decodes-encoded : DecodesEncoded
-decodes-encoded b = rw (flag-decoded (b .active .slot .taken), flag-decoded (b .pending .taken), flag-decoded (b .engine .«under_way»))
+decodes-encoded b = rw (flag-decoded (b .active .taken), flag-decoded (b .pending .taken), flag-decoded (b .engine .«under_way»))
 
 -- n words from word i on
 abbrev wordsFrom : ℕ → ℕ → List ℕ → List ℕ

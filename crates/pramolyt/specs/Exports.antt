@@ -8,7 +8,7 @@ use lib.ListN.{length}
 use Rattle.board.specs.Calls.{Reply, makeCall, postCall, Written, storeCall, writeCall}
 use Rattle.board.specs.Steps.{machine}
 use Rattle.board.specs.Runs.{Outcome, runCall}
-use Rattle.pramolyt.specs.Image.{wordsOf, boardOf, flagsOk}
+use Rattle.pramolyt.specs.Image.{words, wordsOf, boardOf, flagsOk}
 
 -- An image with a flag that is neither 0 nor 1 is no record's: "1, record malformed".
 abbrev pub ofImage : {A : Type 0} → List ℕ → A → A → A
@@ -23,7 +23,7 @@ abbrev pub made : ℕ → List ℕ → Made
 made number words = record { number = number; words = words }
 
 abbrev pub madeBy : Reply → Made
-madeBy r = made (r .heard .number) (wordsOf (r .board))
+madeBy r = made (r .report .number) (wordsOf (r .board))
 
 -- "Make: 2, returning then the fresh 1 by 1 board with 1 entry." The image that stood there is not read.
 unfoldable pub makeImage : ℕ → ℕ → ℕ → Made
@@ -39,7 +39,7 @@ abbrev pub posted : ℕ → List ℕ → ℕ → Posted
 posted number words place = record { number = number; words = words; place = place }
 
 abbrev pub postedBy : Reply → Posted
-postedBy r = posted (r .heard .number) (wordsOf (r .board)) (r .heard .place)
+postedBy r = posted (r .report .number) (wordsOf (r .board)) (r .report .place)
 
 -- "Post: 1 to 6." "The place is zero but in 6."
 unfoldable pub postImage : List ℕ → List ℕ → ℕ → ℕ → Posted
@@ -55,7 +55,7 @@ abbrev pub changed : ℕ → List ℕ → List ℕ → Changed
 changed number words memory = record { number = number; words = words; memory = memory }
 
 abbrev pub changedBy : Written → Changed
-changedBy r = changed (r .heard .number) (wordsOf (r .board)) (r .memory)
+changedBy r = changed (r .report .number) (wordsOf (r .board)) (r .memory)
 
 -- "List store: 1, 2, 4, 8."
 unfoldable pub storeImage : List ℕ → List ℕ → ℕ → List ℕ → Changed
@@ -79,7 +79,7 @@ ran number words steps display virt =
     record { number = number; words = words; steps = steps; display = display; virt = virt }
 
 abbrev pub ranBy : Outcome → Ran
-ranBy o = ran (o .heard .number) (wordsOf (o .after .board)) (o .heard .steps) (o .after .display) (o .after .virt)
+ranBy o = ran (o .report .number) (wordsOf (o .after .board)) (o .report .steps) (o .after .display) (o .after .virt)
 
 -- "Run: 1, 2, 9." The step count is zero "but in 9 and in a done run".
 unfoldable pub runImage : List ℕ → ℕ → List ℕ → List ℕ → List ℕ → Ran
@@ -89,20 +89,20 @@ runImage w budget list display virt =
 -- ---- refusals: "record as given", and "Lent bytes that no rule writes stay, and in a refusal other than 9 all stay."
 abbrev pub RefusedPost : Type 0
 RefusedPost =
-    (w list : List ℕ) (start count : ℕ) → length w ≡ 28 → let r = postImage w list start count in
+    (w list : List ℕ) (start count : ℕ) → length w ≡ words → let r = postImage w list start count in
     (r .number ≡ 0 → ⊥) → r .words ≡ w
 
 abbrev pub RefusedStore : Type 0
 RefusedStore =
-    (w list : List ℕ) (first : ℕ) (bytes : List ℕ) → length w ≡ 28 → let r = storeImage w list first bytes in
+    (w list : List ℕ) (first : ℕ) (bytes : List ℕ) → length w ≡ words → let r = storeImage w list first bytes in
     (r .number ≡ 0 → ⊥) → (r .words ≡ w) × (r .memory ≡ list)
 
 abbrev pub RefusedWrite : Type 0
 RefusedWrite =
-    (w : List ℕ) (number offset : ℕ) (bytes buffer : List ℕ) → length w ≡ 28 → let r = writeImage w number offset bytes buffer in
+    (w : List ℕ) (number offset : ℕ) (bytes buffer : List ℕ) → length w ≡ words → let r = writeImage w number offset bytes buffer in
     (r .number ≡ 0 → ⊥) → (r .words ≡ w) × (r .memory ≡ buffer)
 
 abbrev pub RefusedRun : Type 0
 RefusedRun =
-    (w : List ℕ) (budget : ℕ) (list display virt : List ℕ) → length w ≡ 28 → let r = runImage w budget list display virt in
+    (w : List ℕ) (budget : ℕ) (list display virt : List ℕ) → length w ≡ words → let r = runImage w budget list display virt in
     (r .number ≡ 0 → ⊥) → (r .number ≡ 9 → ⊥) → (r .words ≡ w) × (r .display ≡ display) × (r .virt ≡ virt)

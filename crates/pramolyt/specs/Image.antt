@@ -1,71 +1,145 @@
--- The board record as an image of 28 words (01, What the engine has: "The board record has the three sizes, an active slot, a
+-- The board record as an image of 32-bit words (01, What the engine has: "The board record has the three sizes, an active slot, a
 -- pending slot, the next entry, whether a command is under way, the visited pixels of that command, the registers, the
 -- pattern state and the last point").
 use mathlib.Core.Path.{_≡_}
 use mathlib.Core.Bool.{Bool, true, false, _&&_}
-use mathlib.Core.List.{List, [], _∷_}
-use Prim.Native.Nat.{ℕ}
+use mathlib.Core.List.{List, [], _∷_, _++_}
+use Prim.Native.Nat.{ℕ, _+_}
 use lib.Dec.{eqb, ltb}
-use lib.ListN.{length, getD}
+use lib.ListN.{length, getD, set}
+use Rattle.registers.specs.declared.dashes.Pattern.{Pattern}
+use Rattle.registers.specs.declared.file.Registers.{Registers}
 use Rattle.commands.specs.declared.Engine.{Engine}
+use Rattle.slots.specs.Slots.{slotOf}
+use Rattle.slots.specs.declared.record.Sizes.{Sizes}
+use Rattle.slots.specs.declared.record.Slot.{Slot}
 use Rattle.board.specs.declared.record.Board.{Board}
+
+-- Where each part begins, in the paper's order, and how many words there are.
+abbrev pub sizesAt : ℕ
+sizesAt = 0
+
+abbrev pub activeAt : ℕ
+activeAt = 3
+
+abbrev pub pendingAt : ℕ
+pendingAt = 6
+
+abbrev pub nextAt : ℕ
+nextAt = 9
+
+abbrev pub commandAt : ℕ
+commandAt = 10
+
+abbrev pub registersAt : ℕ
+registersAt = 12
+
+abbrev pub patternAt : ℕ
+patternAt = 25
+
+abbrev pub lastAt : ℕ
+lastAt = 27
+
+abbrev pub words : ℕ
+words = 28
 
 -- A flag is 1 or 0.
 abbrev pub flagOf : Bool → ℕ
 flagOf true = 1
 flagOf false = 0
 
--- The words of a record, in the paper's order; the registers by their numbers.
+-- ---- the words of each part; the registers by their numbers
+abbrev pub sizesWords : Sizes → List ℕ
+sizesWords z = z .extent .width ∷ z .extent .height ∷ z .entries ∷ []
+
+abbrev pub slotWords : Slot → List ℕ
+slotWords s = flagOf (s .taken) ∷ s .span .start ∷ s .span .count ∷ []
+
+abbrev pub commandWords : Engine → List ℕ
+commandWords e = flagOf (e .«under_way») ∷ e .visited ∷ []
+
+abbrev pub registersWords : Registers → List ℕ
+registersWords g =
+    g .cmd ∷ g .fore ∷ g .back ∷ g .mask ∷ g .key ∷ g .lpat ∷ g .pctrl ∷ g .clptl ∷ g .clpbr ∷ g .xy0 ∷ g .xy2 ∷ g .xy3 ∷ g .xy1 ∷ []
+
+abbrev pub patternWords : Pattern → List ℕ
+patternWords p = p .place ∷ p .repeat ∷ []
+
+abbrev pub lastWords : Engine → List ℕ
+lastWords e = e .last ∷ []
+
+-- The words of a record: its parts, one after the other.
 abbrev pub wordsOf : Board → List ℕ
 wordsOf b =
-    b .sizes .width ∷ b .sizes .height ∷ b .sizes .entries
-    ∷ flagOf (b .active .slot .taken) ∷ b .active .slot .start ∷ b .active .slot .count
-    ∷ flagOf (b .pending .taken) ∷ b .pending .start ∷ b .pending .count
-    ∷ b .active .next ∷ flagOf (b .engine .«under_way») ∷ b .engine .visited
-    ∷ b .engine .registers .cmd ∷ b .engine .registers .fore ∷ b .engine .registers .back ∷ b .engine .registers .mask
-    ∷ b .engine .registers .key ∷ b .engine .registers .lpat ∷ b .engine .registers .pctrl
-    ∷ b .engine .registers .clptl ∷ b .engine .registers .clpbr
-    ∷ b .engine .registers .xy0 ∷ b .engine .registers .xy2 ∷ b .engine .registers .xy3 ∷ b .engine .registers .xy1
-    ∷ b .engine .pattern .place ∷ b .engine .pattern .repeat ∷ b .engine .last ∷ []
+    sizesWords (b .sizes)
+    ++ slotWords (slotOf (b .active))
+    ++ slotWords (b .pending)
+    ++ (b .active .cursor .next ∷ [])
+    ++ commandWords (b .engine)
+    ++ registersWords (b .engine .registers)
+    ++ patternWords (b .engine .pattern)
+    ++ lastWords (b .engine)
 
--- The record of some words.
-abbrev pub engineOf : List ℕ → Engine
-engineOf w =
+-- Words put into an image from a place on.
+abbrev pub putWords : List ℕ → ℕ → List ℕ → List ℕ
+putWords w at [] = w
+putWords w at (x ∷ xs) = putWords (set w at x) (at + 1) xs
+
+-- ---- the record of some words, part by part
+abbrev pub sizesIn : List ℕ → Sizes
+sizesIn w =
     record {
-      «under_way» = eqb (getD w 10 0) 1;
-      visited = getD w 11 0;
-      registers =
-          record {
-            cmd = getD w 12 0;
-            fore = getD w 13 0;
-            back = getD w 14 0;
-            mask = getD w 15 0;
-            key = getD w 16 0;
-            lpat = getD w 17 0;
-            pctrl = getD w 18 0;
-            clptl = getD w 19 0;
-            clpbr = getD w 20 0;
-            xy0 = getD w 21 0;
-            xy2 = getD w 22 0;
-            xy3 = getD w 23 0;
-            xy1 = getD w 24 0;
-          };
-      pattern = record { place = getD w 25 0; repeat = getD w 26 0 };
-      last = getD w 27 0;
+      extent = record { width = getD w sizesAt 0; height = getD w (sizesAt + 1) 0 };
+      entries = getD w (sizesAt + 2) 0;
+    }
+
+abbrev pub slotIn : ℕ → List ℕ → Slot
+slotIn at w = record { taken = eqb (getD w at 0) 1; span = record { start = getD w (at + 1) 0; count = getD w (at + 2) 0 } }
+
+abbrev pub registersIn : List ℕ → Registers
+registersIn w =
+    record {
+      cmd = getD w registersAt 0;
+      fore = getD w (registersAt + 1) 0;
+      back = getD w (registersAt + 2) 0;
+      mask = getD w (registersAt + 3) 0;
+      key = getD w (registersAt + 4) 0;
+      lpat = getD w (registersAt + 5) 0;
+      pctrl = getD w (registersAt + 6) 0;
+      clptl = getD w (registersAt + 7) 0;
+      clpbr = getD w (registersAt + 8) 0;
+      xy0 = getD w (registersAt + 9) 0;
+      xy2 = getD w (registersAt + 10) 0;
+      xy3 = getD w (registersAt + 11) 0;
+      xy1 = getD w (registersAt + 12) 0;
+    }
+
+abbrev pub patternIn : List ℕ → Pattern
+patternIn w = record { place = getD w patternAt 0; repeat = getD w (patternAt + 1) 0 }
+
+abbrev pub engineIn : List ℕ → Engine
+engineIn w =
+    record {
+      «under_way» = eqb (getD w commandAt 0) 1;
+      visited = getD w (commandAt + 1) 0;
+      registers = registersIn w;
+      pattern = patternIn w;
+      last = getD w lastAt 0;
     }
 
 abbrev pub boardOf : List ℕ → Board
 boardOf w =
+    let a = slotIn activeAt w in
     record {
-      sizes = record { width = getD w 0 0; height = getD w 1 0; entries = getD w 2 0 };
-      active = record { slot = record { taken = eqb (getD w 3 0) 1; start = getD w 4 0; count = getD w 5 0 }; next = getD w 9 0 };
-      pending = record { taken = eqb (getD w 6 0) 1; start = getD w 7 0; count = getD w 8 0 };
-      engine = engineOf w;
+      sizes = sizesIn w;
+      active = record { taken = a .taken; cursor = record { span = a .span; next = getD w nextAt 0 } };
+      pending = slotIn pendingAt w;
+      engine = engineIn w;
     }
 
 -- Whether each of the three flags is 0 or 1.
 abbrev pub flagsOk : List ℕ → Bool
-flagsOk w = ltb (getD w 3 0) 2 && ltb (getD w 6 0) 2 && ltb (getD w 10 0) 2
+flagsOk w = ltb (getD w activeAt 0) 2 && ltb (getD w pendingAt 0) 2 && ltb (getD w commandAt 0) 2
 
 -- A record comes back from its image.
 abbrev pub DecodesEncoded : Type 0
@@ -73,4 +147,4 @@ DecodesEncoded = (b : Board) → boardOf (wordsOf b) ≡ b
 
 -- An image whose flags are 0 or 1 comes back from its record, word for word.
 abbrev pub EncodesDecoded : Type 0
-EncodesDecoded = (w : List ℕ) → length w ≡ 28 → flagsOk w ≡ true → wordsOf (boardOf w) ≡ w
+EncodesDecoded = (w : List ℕ) → length w ≡ words → flagsOk w ≡ true → wordsOf (boardOf w) ≡ w

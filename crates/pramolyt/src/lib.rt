@@ -1,4 +1,4 @@
-// The exported C functions, as include/pramolyt.h declares them. The board record is an image of 28 words, which the caller
+// The exported C functions, as include/pramolyt.h declares them. The board record is an image of 32-bit words, which the caller
 // keeps (document 01, What the engine has); each call answers the paper's number (What the host hears).
 ghost use mathlib.Core.Path.{_≡_};
 ghost use Rattle.pramolyt.specs.Exports.{made, makeImage, posted, postImage, changed, storeImage, writeImage, ran, runImage};
@@ -6,13 +6,14 @@ ghost use Rattle.pramolyt.specs.Exports.{made, makeImage, posted, postIm
 mod image;
 
 use board::Board;
+use image::WORDS;
 use image::decode;
 use image::encode;
 use image::flags_ok;
 
 #[no_mangle]
 pub extern "C" fn pramolyt_make(
-    board: &mut [u32; 28],
+    board: &mut [u32; WORDS],
     width: usize,
     height: usize,
     entries: usize,
@@ -20,14 +21,14 @@ pub extern "C" fn pramolyt_make(
     ensures { λ r. ⌜ made r (now (board .exit)) ≡ makeImage width height entries ⌝ }
 {
     let made = Board::make(width, height, entries);
-    let heard = made.heard;
+    let status = made.status;
     *board = encode(made.board);
-    heard.number()
+    status.number()
 }
 
 #[no_mangle]
 pub extern "C" fn pramolyt_post(
-    board: &mut [u32; 28],
+    board: &mut [u32; WORDS],
     place: &mut u64,
     list: &[u8],
     start: usize,
@@ -42,15 +43,15 @@ pub extern "C" fn pramolyt_post(
     }
     let b = decode(w);
     let posted = b.post(list, start, count);
-    let heard = posted.heard;
+    let status = posted.status;
     *board = encode(posted.board);
-    *place = heard.place() as u64;
-    heard.number()
+    *place = status.place() as u64;
+    status.number()
 }
 
 #[no_mangle]
 pub extern "C" fn pramolyt_store(
-    board: &mut [u32; 28],
+    board: &mut [u32; WORDS],
     list: &mut [u8],
     first: usize,
     bytes: &[u8],
@@ -63,14 +64,14 @@ pub extern "C" fn pramolyt_store(
     }
     let b = decode(w);
     let stored = b.store(list, first, bytes);
-    let heard = stored.heard;
+    let status = stored.status;
     *board = encode(stored.board);
-    heard.number()
+    status.number()
 }
 
 #[no_mangle]
 pub extern "C" fn pramolyt_window_write(
-    board: &mut [u32; 28],
+    board: &mut [u32; WORDS],
     number: usize,
     offset: usize,
     bytes: &[u8],
@@ -84,14 +85,14 @@ pub extern "C" fn pramolyt_window_write(
     }
     let b = decode(w);
     let written = b.window_write(number, offset, bytes, buffer);
-    let heard = written.heard;
+    let status = written.status;
     *board = encode(written.board);
-    heard.number()
+    status.number()
 }
 
 #[no_mangle]
 pub extern "C" fn pramolyt_run(
-    board: &mut [u32; 28],
+    board: &mut [u32; WORDS],
     steps: &mut u64,
     budget: u64,
     list: &[u8],
@@ -107,8 +108,8 @@ pub extern "C" fn pramolyt_run(
     }
     let b = decode(w);
     let ran = b.run(budget, list, display, virt);
-    let heard = ran.heard;
+    let status = ran.status;
     *board = encode(ran.board);
-    *steps = heard.steps();
-    heard.number()
+    *steps = status.steps();
+    status.number()
 }

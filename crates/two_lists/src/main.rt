@@ -6,8 +6,7 @@ use libc::STDOUT_FILENO;
 
 // How many slots are taken.
 fn lists(b: Board) -> u64 {
-    let c = b.active;
-    let s = c.slot;
+    let s = b.active;
     let p = b.pending;
     if p.taken {
         return 2;
@@ -16,12 +15,12 @@ fn lists(b: Board) -> u64 {
 }
 
 fn tell(call: &[u8], a: Answer) {
-    let heard = a.heard;
+    let status = a.status;
     let b = a.board;
     io::write_all(STDOUT_FILENO, call);
-    io::print_decimal(STDOUT_FILENO, heard.number() as u64);
+    io::print_decimal(STDOUT_FILENO, status.number() as u64);
     io::write_all(STDOUT_FILENO, b" steps ");
-    io::print_decimal(STDOUT_FILENO, heard.steps());
+    io::print_decimal(STDOUT_FILENO, status.steps());
     io::write_all(STDOUT_FILENO, b" lists ");
     io::print_decimal(STDOUT_FILENO, lists(b));
     io::write_all(STDOUT_FILENO, b"\n");

@@ -1,56 +1,39 @@
 use borrow.Author.Needs.{needs}
 use Rattle.pramolyt.proofs.image.decode.Statement.{statement}
 use Rattle.pramolyt.proofs.image.decode.Tie as tie
+use Rattle.pramolyt.proofs.image.decode.Reads as reads
+use Rattle.pramolyt.proofs.image.decode.Lts as lts
+use Rattle.pramolyt.proofs.image.engine_in.Reads as engine-in-reads
+use Rattle.pramolyt.proofs.image.sizes_in.Reads as sizes-in-reads
+use Rattle.pramolyt.proofs.image.slot_in.Reads as slot-in-reads
 
-engine-at-requires : tie.Need-engine-at-requires
-engine-at-requires c κs = search needs
+sizes-in-requires : tie.Need-sizes-in-requires
+sizes-in-requires c κs = search needs
 
-array-read-t7 : tie.Need-array-read-t7
-array-read-t7 c = search needs
+slot-in-requires : tie.Need-slot-in-requires
+slot-in-requires c κs = search needs
 
-array-read-t10 : tie.Need-array-read-t10
-array-read-t10 c = search needs
+slot-in-requires-2 : tie.Need-slot-in-requires-2
+slot-in-requires-2 c κs = search needs
 
-array-read-t13 : tie.Need-array-read-t13
-array-read-t13 c = search needs
+engine-in-requires : tie.Need-engine-in-requires
+engine-in-requires c κs = search needs
 
-array-read-t17 : tie.Need-array-read-t17
-array-read-t17 c = search needs
-
-array-read-t21 : tie.Need-array-read-t21
-array-read-t21 c = search needs
-
-array-read-t24 : tie.Need-array-read-t24
-array-read-t24 c = search needs
-
-array-read-t28 : tie.Need-array-read-t28
-array-read-t28 c = search needs
-
-array-read-t32 : tie.Need-array-read-t32
-array-read-t32 c = search needs
-
-array-read-t36 : tie.Need-array-read-t36
-array-read-t36 c = search needs
-
-array-read-t39 : tie.Need-array-read-t39
-array-read-t39 c = search needs
+array-read-t11 : tie.Need-array-read-t11
+array-read-t11 c = search needs
 
 returns : tie.Need-returns
-returns c = rw (c .engine-at .ensures)
+returns c =
+    let active = c .before .before .before in
+    rw (active .before .sizes-in .ensures, active .slot-in .ensures, c .before .slot-in2 .ensures, c .engine-in .ensures)
 
 pub decode-spec : {M : Type 1} → statement M
 decode-spec =
     tie.close
     (tie.spec
-    engine-at-requires
-    array-read-t7
-    array-read-t10
-    array-read-t13
-    array-read-t17
-    array-read-t21
-    array-read-t24
-    array-read-t28
-    array-read-t32
-    array-read-t36
-    array-read-t39
+    sizes-in-requires
+    slot-in-requires
+    slot-in-requires-2
+    engine-in-requires
+    array-read-t11
     returns)

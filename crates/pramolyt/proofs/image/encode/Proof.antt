@@ -1,18 +1,57 @@
 use borrow.Author.Needs.{needs}
 use Rattle.pramolyt.proofs.image.encode.Statement.{statement}
 use Rattle.pramolyt.proofs.image.encode.Tie as tie
+use Rattle.pramolyt.proofs.image.encode.Reads as reads
+use Rattle.pramolyt.proofs.image.encode.Lts as lts
+use Rattle.pramolyt.proofs.image.put_command.Reads as put-command-reads
+use Rattle.pramolyt.proofs.image.put_registers.Reads as put-registers-reads
+use Rattle.pramolyt.proofs.image.put_sizes.Reads as put-sizes-reads
+use Rattle.pramolyt.proofs.image.put_slot.Reads as put-slot-reads
+use Rattle.slots.proofs.record.Active.slot.Reads as slot-reads
 
-flag-requires : tie.Need-flag-requires
-flag-requires c κs = search needs
+put-sizes-requires : tie.Need-put-sizes-requires
+put-sizes-requires c κs = search needs
 
-flag-requires-2 : tie.Need-flag-requires-2
-flag-requires-2 c κs = search needs
+slot-requires : tie.Need-slot-requires
+slot-requires c κs = search needs
 
-flag-requires-3 : tie.Need-flag-requires-3
-flag-requires-3 c κs = search needs
+put-slot-requires : tie.Need-put-slot-requires
+put-slot-requires c κs = search needs
+
+put-slot-requires-2 : tie.Need-put-slot-requires-2
+put-slot-requires-2 c κs = search needs
+
+array-write-both : tie.Need-array-write-both
+array-write-both c = search needs
+
+put-registers-requires : tie.Need-put-registers-requires
+put-registers-requires c κs = search needs
+
+put-command-requires : tie.Need-put-command-requires
+put-command-requires c κs = search needs
 
 returns : tie.Need-returns
-returns c = rw (c .before .before .flag .ensures, c .before .flag2 .ensures, c .flag3 .ensures)
+returns c =
+    let slots = c .before .before in
+    let first = slots .before in
+    rw (
+      c .put-command .ensures,
+      c .before .put-registers .ensures,
+      slots .put-slot2 .ensures,
+      first .put-slot .ensures,
+      first .before .slot .ensures,
+      first .before .before .put-sizes .ensures,
+    )
 
 pub encode-spec : {M : Type 1} → statement M
-encode-spec = tie.close (tie.spec flag-requires flag-requires-2 flag-requires-3 returns)
+encode-spec =
+    tie.close
+    (tie.spec
+    put-sizes-requires
+    slot-requires
+    put-slot-requires
+    put-slot-requires-2
+    array-write-both
+    put-registers-requires
+    put-command-requires
+    returns)
