@@ -10,9 +10,9 @@ use native.Mathlib.Omega.{arith}
 use lib.Bits.{bitXor, and-zero-l, and-zero-r, xor-zero-r}
 use lib.ListN.{getD}
 use lib.Pow.{shl-shr}
-use Rattle.rows.specs.Rows.{sweep}
-use Rattle.rows.proofs.Sweeps.{sweep-agree, sweep-join, sweep-stays, sweep-idle}
-use Rattle.rows.proofs.Orders.{turned-from}
+use Rattle.lemmas.specs.Sweeps.{sweep}
+use Rattle.lemmas.proofs.Sweeps.{sweep-agree, sweep-join, sweep-stays, sweep-idle}
+use Rattle.lemmas.proofs.Orders.{turned-from}
 use Rattle.stipples.specs.Stipples.{bitIn, bitAt, stippled}
 use Rattle.stipples.specs.Words.{byteIn, inksOf, inked, Bytes}
 use Rattle.stipples.specs.declared.Stipple.{Stipple}

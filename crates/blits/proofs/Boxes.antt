@@ -15,13 +15,13 @@ use Rattle.lemmas.specs.Turns.{inTurn}
 use Rattle.lemmas.proofs.Turns.{turn-none, turn-more, turn-agree, turn-idle}
 use Rattle.geometry.specs.Coordinates.{origin, pointOf}
 use Rattle.geometry.specs.Blit.{widthOf, heightOf, bottomToTop, rightToLeft, away}
-use Rattle.rows.specs.Rows.{sweep}
+use Rattle.lemmas.specs.Sweeps.{sweep}
 use Rattle.blits.specs.Blits.{reads, sourcePixels, sourceWidth, visited, seenColumns, seenRows, partOf, targetRow, sourceRow, rowOf, rowAt, leftEdge, placeAt, boxOf, Fitting, RowFits, RowsFit, BoxFits}
 use Rattle.blits.specs.declared.Blit.{Blit}
 use Rattle.blits.specs.declared.Paint.{Paint}
 use Rattle.blits.specs.declared.Span.{Span}
 use Rattle.blits.proofs.Bounds.{source-small, rows-far, x-below, y-below}
-use Rattle.blits.proofs.Sweeping.{turn-part, turn-rows}
+use Rattle.lemmas.proofs.Turns.{turn-part, turn-rows}
 use Rattle.blits.proofs.Spans.{y-from}
 use Rattle.blits.proofs.Loops.{row-below}
 use Rattle.blits.proofs.Rowwise.{RowIn, row-of, row-by}

@@ -10,8 +10,9 @@ use native.Mathlib.Omega.{arith}
 use lib.ListN.{getD}
 use Rattle.geometry.specs.Coordinates.{origin, pointOf}
 use Rattle.geometry.specs.Blit.{widthOf, rightToLeft, away}
-use Rattle.rows.specs.Rows.{mixed, sweep}
-use Rattle.rows.proofs.Sweeps.{sweep-agree}
+use Rattle.lemmas.specs.Sweeps.{sweep}
+use Rattle.rows.specs.Rows.{mixed}
+use Rattle.lemmas.proofs.Sweeps.{sweep-agree}
 use Rattle.stipples.specs.Stipples.{bitAt, stippled}
 use Rattle.lemmas.specs.Turns.{inTurn}
 use Rattle.geometry.specs.Clip.{placeIn}
@@ -20,7 +21,7 @@ use Rattle.blits.specs.declared.Blit.{Blit}
 use Rattle.blits.specs.declared.Paint.{Paint}
 use Rattle.blits.specs.declared.Paint.the-variants.{Solid, Copied, Moved, Stippled, StippledWithin}
 use Rattle.lemmas.proofs.Turns.{turn-idle}
-use Rattle.blits.proofs.Sweeping.{turn-sweep}
+use Rattle.lemmas.proofs.Sweeps.{turn-sweep}
 use Rattle.blits.proofs.Spans.{x-from, visit-drawn, visit-hidden}
 use Rattle.blits.proofs.Rowwise.{ColumnIn, RowIn, column-of, column-by, target-is, source-is, seen-drawn, drawn-seen}
 

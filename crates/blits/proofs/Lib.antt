@@ -1,4 +1,3 @@
-pub mod Sweeping
 pub mod Spans
 pub mod Rowwise
 pub mod Drawn

@@ -9,7 +9,8 @@ use lib.ListN.{length}
 use Rattle.raster.specs.declared.Pen.{Pen}
 use Rattle.rows.specs.Rows.{mixed, filledRow, copiedRow, movedRow, movedBackRow}
 use Rattle.rows.specs.declared.Mix.{Mix}
-use Rattle.rows.proofs.Orders.{fill-turned, copy-turned, turned-from}
+use Rattle.lemmas.proofs.Orders.{turned-from}
+use Rattle.rows.proofs.Orders.{fill-turned, copy-turned}
 use Rattle.rows.proofs.Fitting.{filled-row, copied-row, moved-row, moved-back-row}
 use Rattle.stipples.specs.Stipples.{bitAt, stippled}
 use Rattle.stipples.specs.declared.Stipple.{Stipple}

@@ -4,7 +4,7 @@ use mathlib.Core.List.{List}
 use mathlib.Core.Logic.{_⊎_}
 use Prim.Native.Nat.{ℕ, _+_, _-_, _*_, _/_, _≤_, _<_}
 use lib.ListN.{getD}
-use Rattle.rows.specs.Rows.{sweep}
+use Rattle.lemmas.specs.Sweeps.{sweep}
 use Rattle.stipples.specs.Stipples.{bitIn, bitAt, stippled}
 use Rattle.stipples.specs.declared.Stipple.{Stipple}
 use Rattle.stipples.specs.declared.Inks.{Inks}

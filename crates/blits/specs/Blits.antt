@@ -12,7 +12,8 @@ use Rattle.geometry.specs.Clip.{placeIn, inBuffer, inWindow}
 use Rattle.geometry.specs.Blit.{widthOf, blitCount, bottomToTop, rightToLeft, away, blitPoint}
 use Rattle.geometry.specs.declared.Point.{Point}
 use Rattle.geometry.specs.declared.Window.{Window}
-use Rattle.rows.specs.Rows.{mixed, sweep}
+use Rattle.lemmas.specs.Sweeps.{sweep}
+use Rattle.rows.specs.Rows.{mixed}
 use Rattle.stipples.specs.Stipples.{bitAt, stippled}
 use Rattle.blits.specs.declared.Blit.{Blit}
 use Rattle.blits.specs.declared.Paint.{Paint}

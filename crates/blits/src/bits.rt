@@ -5,7 +5,7 @@ ghost use mathlib.Core.Logic.{_⊎_};
 ghost use Prim.Native.Nat.{ℕ, _+_, _-_, _*_, _/_, _<_, _≤_};
 ghost use lib.Dec.{ltb};
 ghost use lib.ListN.{length, getD};
-ghost use Rattle.rows.specs.Rows.{sweep};
+ghost use Rattle.lemmas.specs.Sweeps.{sweep};
 ghost use Rattle.stipples.specs.Stipples.{bitIn, bitAt};
 ghost use Rattle.stipples.specs.Words.{byteIn, inksOf};
 ghost use Rattle.blits.specs.Bits.{wordOf, Plain, byByte, expanded, expandedWithin, expandedBack, BitsFit, Apart};

@@ -1,4 +1,3 @@
-pub mod Sweeps
 pub mod Orders
 pub mod Within
 pub mod Parts

@@ -12,9 +12,10 @@ use lib.Seq.{ext-getD}
 use Rattle.lemmas.proofs.Booleans.{by-cases}
 use Rattle.raster.specs.Selectors.{drawn}
 use Rattle.raster.specs.declared.Pen.{Pen}
-use Rattle.rows.specs.Rows.{sweep, filled, copied, moved, movedBack}
-use Rattle.rows.proofs.Sweeps.{sweep-length, sweep-stays, sweep-wrote}
-use Rattle.rows.proofs.Orders.{right}
+use Rattle.lemmas.specs.Sweeps.{sweep}
+use Rattle.rows.specs.Rows.{filled, copied, moved, movedBack}
+use Rattle.lemmas.proofs.Sweeps.{sweep-length, sweep-stays, sweep-wrote}
+use Rattle.lemmas.proofs.Orders.{right}
 use Rattle.rows.proofs.Within.{moved-aside, moved-back-aside}
 
 -- whether i is one of n places from `at` on

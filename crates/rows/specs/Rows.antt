@@ -1,9 +1,10 @@
 -- Rows of pixels (01, Pixels): one visit after the other, each on the bytes as they stand at that visit.
 use mathlib.Core.Bool.{Bool, cond, _&&_}
 use mathlib.Core.List.{List}
-use Prim.Native.Nat.{ℕ, zero, suc, _+_, _-_}
+use Prim.Native.Nat.{ℕ, _+_, _-_}
 use lib.Dec.{eqb, leb}
-use lib.ListN.{length, getD, set}
+use lib.ListN.{length, getD}
+use Rattle.lemmas.specs.Sweeps.{sweep}
 use Rattle.raster.specs.Selectors.{drawn, selected}
 use Rattle.raster.specs.declared.Pen.{Pen}
 use Rattle.rows.specs.declared.Mix.{Mix}
@@ -11,11 +12,6 @@ use Rattle.rows.specs.declared.Mix.{Mix}
 -- The new byte from a source byte and an old one: a source byte equal to KEY, with KEY set, draws nothing.
 unfoldable pub mixed : Mix → ℕ → ℕ → ℕ
 mixed m s d = cond (m .keyed && eqb s (m .key)) d (drawn (selected (m .selectors) s) d)
-
--- Visit k writes value k m at place k, where m are the bytes as visits 0 to k - 1 left them.
-unfoldable pub sweep : (ℕ → ℕ) → (ℕ → List ℕ → ℕ) → ℕ → List ℕ → List ℕ
-sweep place value zero l = l
-sweep place value (suc k) l = set (sweep place value k l) (place k) (value k (sweep place value k l))
 
 -- n pixels of l from `at` on, to the right.
 abbrev pub filled : Pen → ℕ → List ℕ → ℕ → List ℕ

@@ -5,7 +5,8 @@ ghost use mathlib.Core.Bool.{true};
 ghost use Prim.Native.Nat.{ℕ, _+_, _<_, _≤_};
 ghost use lib.Dec.{leb};
 ghost use lib.ListN.{length};
-ghost use Rattle.rows.specs.Rows.{mixed, sweep, filled, copied, moved, movedBack, filledRow, copiedRow, movedRow, movedBackRow};
+ghost use Rattle.lemmas.specs.Sweeps.{sweep};
+ghost use Rattle.rows.specs.Rows.{mixed, filled, copied, moved, movedBack, filledRow, copiedRow, movedRow, movedBackRow};
 use raster::Pen;
 use raster::Selectors;
 

@@ -13,7 +13,8 @@ use Rattle.lemmas.proofs.Booleans.{and-left, and-right}
 use Rattle.lemmas.proofs.Turns.{turn-agree}
 use Rattle.raster.specs.Selectors.{drawn}
 use Rattle.raster.specs.declared.Pen.{Pen}
-use Rattle.rows.specs.Rows.{sweep, filled, filledRow}
+use Rattle.lemmas.specs.Sweeps.{sweep}
+use Rattle.rows.specs.Rows.{filled, filledRow}
 use Rattle.rows.proofs.Fitting.{filled-row}
 use Rattle.rows.proofs.Orders.{fill-turned-at}
 use Rattle.strokes.specs.Bresenham.{moved, bresenhamAfter, Places, plotAt}

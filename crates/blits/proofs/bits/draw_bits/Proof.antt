@@ -3,7 +3,7 @@ use native.Mathlib.Omega.{arith}
 use mathlib.Core.Path.{_≡_, refl}
 use Prim.Native.Nat.{_-_, _≤_}
 use lib.ListN.{length, length-set}
-use Rattle.rows.proofs.Sweeps.{sweep-start, sweep-more, sweep-end}
+use Rattle.lemmas.proofs.Sweeps.{sweep-start, sweep-more, sweep-end}
 use Rattle.blits.specs.Bits.{byByte}
 use Rattle.blits.proofs.bits.draw_bits.Statement.{statement}
 use Rattle.blits.proofs.bits.draw_bits.Tie as tie

@@ -6,7 +6,7 @@ use borrow.Author.Tests.{eqb-true}
 use lib.Dec.{eqb}
 use lib.ListN.{length}
 use Rattle.lemmas.proofs.Booleans.{and-left, and-right}
-use Rattle.rows.proofs.Sweeps.{sweep-start, sweep-end}
+use Rattle.lemmas.proofs.Sweeps.{sweep-start, sweep-end}
 use Rattle.blits.specs.Bits.{Plain, expanded}
 use Rattle.blits.proofs.Blocks.{expanded-more}
 use Rattle.blits.proofs.bits.expand.Statement.{statement}

@@ -2,7 +2,7 @@ use native.Mathlib.Omega.{arith}
 use mathlib.Core.Path.{_≡_, refl}
 use Prim.Native.Nat.{_+_, _-_, _*_, _≤_}
 use lib.ListN.{length}
-use Rattle.rows.proofs.Sweeps.{sweep-start, sweep-end}
+use Rattle.lemmas.proofs.Sweeps.{sweep-start, sweep-end}
 use Rattle.blits.specs.Bits.{expanded}
 use Rattle.blits.proofs.Blocks.{apart-more}
 use Rattle.blits.proofs.bits.expand_apart.Statement.{statement}

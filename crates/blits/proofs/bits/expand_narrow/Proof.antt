@@ -2,7 +2,7 @@ use borrow.Author.Needs.{needs}
 use mathlib.Core.Path.{refl, sym}
 use Prim.Native.Nat.{_+_, _*_}
 use native.Mathlib.Omega.{arith}
-use Rattle.rows.proofs.Sweeps.{sweep-start}
+use Rattle.lemmas.proofs.Sweeps.{sweep-start}
 use Rattle.blits.proofs.Blocks.{expanded-more, eight-of, only-eight}
 use Rattle.blits.proofs.bits.expand_narrow.Statement.{statement}
 use Rattle.blits.proofs.bits.expand_narrow.Tie as tie

@@ -3,8 +3,8 @@ use native.Mathlib.Omega.{arith}
 use mathlib.Core.Path.{_≡_, refl, ap, _∙_}
 use Prim.Native.Nat.{_+_, _-_, _*_, _/_, _%_, _^_, _≤_}
 use lib.ListN.{length, length-set}
-use Rattle.rows.specs.Rows.{sweep}
-use Rattle.rows.proofs.Sweeps.{sweep-start, sweep-more, sweep-end}
+use Rattle.lemmas.specs.Sweeps.{sweep}
+use Rattle.lemmas.proofs.Sweeps.{sweep-start, sweep-more, sweep-end}
 use Rattle.stipples.specs.Words.{byteIn}
 use Rattle.blits.proofs.Words.{first-byte, next-byte}
 use Rattle.blits.proofs.bits.put_word.Statement.{statement}
