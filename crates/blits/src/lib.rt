@@ -21,6 +21,9 @@ use geometry::ORIGIN;
 use geometry::Window;
 use geometry::blit_count;
 use geometry::point_of;
+use numbers::max;
+use numbers::min;
+use numbers::saturating_sub;
 use raster::Pen;
 use rows::Mix;
 use rows::copy_row;
@@ -70,33 +73,14 @@ fn visible(back: bool, c: usize, lo: usize, hi: usize) -> Span
 {
     if back {
         return Span {
-            from: less(c + 1, hi),
-            past: less(c + 1, lo),
+            from: saturating_sub(c + 1, hi),
+            past: saturating_sub(c + 1, lo),
         };
     }
     Span {
-        from: less(lo, c),
-        past: less(hi, c),
+        from: saturating_sub(lo, c),
+        past: saturating_sub(hi, c),
     }
-}
-
-// a - b, or 0.
-fn less(a: usize, b: usize) -> usize
-    ensures { λ r. ⌜ r ≡ a - b ⌝ }
-{
-    if a <= b { 0 } else { a - b }
-}
-
-fn larger(a: usize, b: usize) -> usize
-    ensures { λ r. ⌜ r ≡ max a b ⌝ }
-{
-    if a <= b { b } else { a }
-}
-
-fn smaller(a: usize, b: usize) -> usize
-    ensures { λ r. ⌜ r ≡ min a b ⌝ }
-{
-    if a <= b { a } else { b }
 }
 
 // k from c, on or back; back no further than 0.
@@ -104,7 +88,7 @@ fn along(back: bool, c: usize, k: usize) -> usize
     requires { ⌜ c + k < 18446744073709551616 ⌝ }
     ensures { λ r. ⌜ r ≡ away back c k ⌝ }
 {
-    if back { less(c, k) } else { c + k }
+    if back { saturating_sub(c, k) } else { c + k }
 }
 
 // The left edge of columns a to before z.
@@ -120,7 +104,7 @@ fn place_in(width: usize, x: usize, y: usize) -> usize
     requires { ⌜ (width < 34359738368) × (x < 262144) × (y < 262144) ⌝ }
     ensures { λ r. ⌜ r ≡ (y - origin) * width + (x - origin) ⌝ }
 {
-    less(y, ORIGIN) * width + less(x, ORIGIN)
+    saturating_sub(y, ORIGIN) * width + saturating_sub(x, ORIGIN)
 }
 
 // Where columns a to before z of a row begin, in a blit that starts at a corner.
@@ -167,8 +151,8 @@ fn seen_span(reads: bool, back: bool, t: usize, lo: usize, hi: usize, s: usize, 
 {
     let target = visible(back, t, lo, hi);
     let source = visible(back, s, ORIGIN, ORIGIN + size);
-    let from = larger(target.from, source.from);
-    let past = smaller(target.past, source.past);
+    let from = max(target.from, source.from);
+    let past = min(target.past, source.past);
     if reads {
         return Span { from, past };
     }
@@ -199,8 +183,8 @@ fn part(seen: Span, from: usize, n: usize) -> Span
     ensures { λ r. ⌜ r ≡ partOf seen from n ⌝ }
 {
     Span {
-        from: larger(from, seen.from),
-        past: smaller(from + n, seen.past),
+        from: max(from, seen.from),
+        past: min(from + n, seen.past),
     }
 }
 
@@ -520,7 +504,7 @@ fn draw_rows(b: Blit, seen: Seen, first: usize, n: usize, buffer: &mut [u8], oth
     let mut column = first % across;
     let mut k: usize = 0;
     while first + k < first + n {
-        let m = smaller(n - k, across - column);
+        let m = min(n - k, across - column);
         draw_row(b, seen, row, column, m, buffer, other);
         k += m;
         row += 1;
@@ -588,7 +572,7 @@ fn blit_fits(b: Blit, first: usize, n: usize, other: usize, own: usize) -> bool
     (own == area)
         & (other == area)
         & window_inside(b.width, b.height, w)
-        & ((n <= count) & (first <= less(count, n)))
+        & ((n <= count) & (first <= saturating_sub(count, n)))
 }
 
 fn window_inside(width: u32, height: u32, w: Window) -> bool

@@ -22,15 +22,15 @@ blit-count-requires c κs = search needs
 window-inside-requires : tie.Need-window-inside-requires
 window-inside-requires c κs = search needs
 
-less-requires : tie.Need-less-requires
-less-requires c κs = search needs
+saturating-sub-requires : tie.Need-saturating-sub-requires
+saturating-sub-requires c κs = search needs
 
 returns : tie.Need-returns
 returns c =
     let inside = c .before in
     let counted = inside .before in
     rw (
-      c .less .ensures,
+      c .saturating-sub .ensures,
       inside .window-inside .ensures,
       counted .blit-count .ensures,
       ← fits-in _ _ _,
@@ -45,5 +45,5 @@ blit-fits-spec =
     mul-area
     blit-count-requires
     window-inside-requires
-    less-requires
+    saturating-sub-requires
     returns)

@@ -66,31 +66,31 @@ stands : (c : tie.In-loop Inv-loop μ-loop) → let at = c .before in
     Stands (widthOf (s .b .size)) (s .first) (at .loop .k) (at .loop .row) (at .loop .column)
 stands c = c .before .loop .inv .6 (omega arith)
 
-fits : (c : tie.After-smaller Inv-loop μ-loop) → let at = c .before .before in
+fits : (c : tie.After-min Inv-loop μ-loop) → let at = c .before .before in
     let s = at .before .before .before .before .args in
-    RowFits (s .b) (at .loop .row) (at .loop .column) (c .smaller .result) (length (s .other .now)) (length (s .buffer .now))
+    RowFits (s .b) (at .loop .row) (at .loop .column) (c .min .result) (length (s .other .now)) (length (s .buffer .now))
 fits c =
     let in-it = c .before in
     let at = in-it .before in
     let s = at .before .before .before .before .args in
-    row-fits (s .b) (s .first) (s .n) (at .loop .k) (at .loop .row) (at .loop .column) (c .smaller .result) (length (s .other .now)) (length (s .buffer .now))
+    row-fits (s .b) (s .first) (s .n) (at .loop .k) (at .loop .row) (at .loop .column) (c .min .result) (length (s .other .now)) (length (s .buffer .now))
     (at .loop .inv .5) (at .loop .inv .2) (omega arith) (stands in-it)
-    (c .smaller .ensures ∙ ap (λ w. min (s .n - at .loop .k) (w - at .loop .column)) (at .loop .inv .4))
+    (c .min .ensures ∙ ap (λ w. min (s .n - at .loop .k) (w - at .loop .column)) (at .loop .inv .4))
 
-sub-smaller : tie.Need-sub-smaller Inv-loop μ-loop
-sub-smaller c = omega arith
+sub-min : tie.Need-sub-min Inv-loop μ-loop
+sub-min c = omega arith
 
-sub-smaller-2 : tie.Need-sub-smaller-2 Inv-loop μ-loop
-sub-smaller-2 c = omega (arith, stands c .short, c .before .loop .inv .4)
+sub-min-2 : tie.Need-sub-min-2 Inv-loop μ-loop
+sub-min-2 c = omega (arith, stands c .short, c .before .loop .inv .4)
 
-smaller-requires : tie.Need-smaller-requires Inv-loop μ-loop
-smaller-requires c κs = search needs
+min-requires : tie.Need-min-requires Inv-loop μ-loop
+min-requires c κs = search needs
 
 draw-row-requires : tie.Need-draw-row-requires Inv-loop μ-loop
 draw-row-requires c κs =
     let at = c .before .before .before in
     let s = at .before .before .before .before .args in (
-      subst (λ own. RowFits (s .b) (at .loop .row) (at .loop .column) (c .before .smaller .result) (length (s .other .now)) own) (sym (at .loop .inv .1))
+      subst (λ own. RowFits (s .b) (at .loop .row) (at .loop .column) (c .before .min .result) (length (s .other .now)) own) (sym (at .loop .inv .1))
           (fits (c .before)),
       at .loop .inv .3,
     )
@@ -108,7 +108,7 @@ loop-less : tie.Need-loop-less Inv-loop μ-loop
 loop-less c =
     let o = c .before .before .before .before in
     let at = o .before .before in
-    omega (arith, o .smaller .ensures, at .loop .inv .4, stands (o .before) .short)
+    omega (arith, o .min .ensures, at .loop .inv .4, stands (o .before) .short)
 
 loop-again : tie.Need-loop-again Inv-loop μ-loop
 loop-again c =
@@ -116,8 +116,8 @@ loop-again c =
     let o = done .before .before in
     let at = o .before .before in
     let s = at .before .before .before .before .args in
-    let size = o .smaller .ensures ∙ ap (λ w. min (s .n - at .loop .k) (w - at .loop .column)) (at .loop .inv .4) in (
-      omega (arith, o .smaller .ensures, at .loop .inv .0),
+    let size = o .min .ensures ∙ ap (λ w. min (s .n - at .loop .k) (w - at .loop .column)) (at .loop .inv .4) in (
+      omega (arith, o .min .ensures, at .loop .inv .0),
       done .draw-row .kept .1 .1 .1 .1 .1 .0 ∙ at .loop .inv .1,
       at .loop .inv .2,
       at .loop .inv .3,
@@ -147,9 +147,9 @@ draw-rows-spec =
     loop-holds
     add-loop
     add-loop-2
-    sub-smaller
-    sub-smaller-2
-    smaller-requires
+    sub-min
+    sub-min-2
+    min-requires
     draw-row-requires
     add-k
     add-row

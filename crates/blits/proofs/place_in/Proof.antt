@@ -6,24 +6,24 @@ use Rattle.blits.proofs.Bounds.{product-small}
 use Rattle.blits.proofs.place_in.Statement.{statement}
 use Rattle.blits.proofs.place_in.Tie as tie
 
-less-requires : tie.Need-less-requires
-less-requires c κs = search needs
+saturating-sub-requires : tie.Need-saturating-sub-requires
+saturating-sub-requires c κs = search needs
 
 mul-result : tie.Need-mul-result
 mul-result c =
     let s = c .before .args in
-    rw (c .less .ensures) (omega (arith, product-small (s .y - origin) (s .width) (omega arith) (search needs)))
+    rw (c .saturating-sub .ensures) (omega (arith, product-small (s .y - origin) (s .width) (omega arith) (search needs)))
 
-less-requires-2 : tie.Need-less-requires-2
-less-requires-2 c κs = search needs
+saturating-sub-requires-2 : tie.Need-saturating-sub-requires-2
+saturating-sub-requires-2 c κs = search needs
 
 add-result : tie.Need-add-result
 add-result c =
     let s = c .before .before .args in
-    rw (c .less2 .ensures, c .before .less .ensures) (omega (arith, product-small (s .y - origin) (s .width) (omega arith) (search needs)))
+    rw (c .saturating-sub2 .ensures, c .before .saturating-sub .ensures) (omega (arith, product-small (s .y - origin) (s .width) (omega arith) (search needs)))
 
 returns : tie.Need-returns
-returns c = rw (c .less2 .ensures, c .before .less .ensures)
+returns c = rw (c .saturating-sub2 .ensures, c .before .saturating-sub .ensures)
 
 pub place-in-spec : {M : Type 1} → statement M
-place-in-spec = tie.close (tie.spec less-requires mul-result less-requires-2 add-result returns)
+place-in-spec = tie.close (tie.spec saturating-sub-requires mul-result saturating-sub-requires-2 add-result returns)

@@ -12,11 +12,11 @@ add-visible c = search needs
 visible-requires-2 : tie.Need-visible-requires-2
 visible-requires-2 c κs = search needs
 
-larger-requires : tie.Need-larger-requires
-larger-requires c κs = search needs
+max-requires : tie.Need-max-requires
+max-requires c κs = search needs
 
-smaller-requires : tie.Need-smaller-requires
-smaller-requires c κs = search needs
+min-requires : tie.Need-min-requires
+min-requires c κs = search needs
 
 returns : tie.Need-returns
 unfolding seenSpan
@@ -25,7 +25,7 @@ returns c =
     let most = small .before in
     let second = most .before in
     let first = second .before in
-    rw (small .smaller .ensures, most .larger .ensures, second .visible2 .ensures, first .visible .ensures, c .if1 .taken)
+    rw (small .min .ensures, most .max .ensures, second .visible2 .ensures, first .visible .ensures, c .if1 .taken)
 
 returns-2 : tie.Need-returns-2
 unfolding seenSpan
@@ -38,7 +38,7 @@ seen-span-spec =
     visible-requires
     add-visible
     visible-requires-2
-    larger-requires
-    smaller-requires
+    max-requires
+    min-requires
     returns
     returns-2)
