@@ -16,13 +16,16 @@ use Rattle.lemmas.proofs.Turns.{turn-none, turn-more, turn-agree, turn-idle}
 use Rattle.geometry.specs.Coordinates.{origin, pointOf}
 use Rattle.geometry.specs.Blit.{widthOf, heightOf, bottomToTop, rightToLeft, away}
 use Rattle.lemmas.specs.Sweeps.{sweep}
-use Rattle.blits.specs.Blits.{reads, sourcePixels, sourceWidth, visited, seenColumns, seenRows, partOf, targetRow, sourceRow, rowOf, rowAt, leftEdge, placeAt, boxOf, Fitting, RowFits, RowsFit, BoxFits}
+use Rattle.blits.specs.Blits.{reads, sourcePixels, sourceWidth, visited, Fitting, RowFits}
+use Rattle.blits.specs.Ranges.{visibleColumns, visibleRows, partOf}
+use Rattle.blits.specs.Places.{targetRow, sourceRow, leftEdge, placeAt}
+use Rattle.blits.specs.Rows.{rowOf, rowAt, boxOf, RowsFit, BoxFits}
 use Rattle.blits.specs.declared.Blit.{Blit}
 use Rattle.blits.specs.declared.Paint.{Paint}
-use Rattle.blits.specs.declared.Span.{Span}
+use Rattle.blits.specs.declared.ranges.Range.{Range}
 use Rattle.blits.proofs.Bounds.{source-small, rows-far, x-below, y-below}
 use Rattle.lemmas.proofs.Turns.{turn-part, turn-rows}
-use Rattle.blits.proofs.Spans.{y-from}
+use Rattle.blits.proofs.Visits.{y-from}
 use Rattle.blits.proofs.Loops.{row-below}
 use Rattle.blits.proofs.Rowwise.{RowIn, row-of, row-by}
 use Rattle.blits.proofs.Drawn.{from-least, past-most, before-from, after-past}
@@ -37,7 +40,7 @@ no-pixels paint true other at from l = refl
 row-none : (paint : Paint) (back : Bool) (other : List ℕ) (at from n : ℕ) (l : List ℕ) → n ≡ 0 → rowOf paint back other at from n l ≡ l
 row-none paint back other at from n l e = ap (λ n. rowOf paint back other at from n l) e ∙ no-pixels paint back other at from l
 
-module _ (paint : Paint) (width to from direction : ℕ) (across down : Span) (other l : List ℕ) where
+module _ (paint : Paint) (width to from direction : ℕ) (across down : Range) (other l : List ℕ) where
   abbrev target : ℕ
   target = placeAt to width direction (across .from) (across .past) (down .from)
 
@@ -108,7 +111,7 @@ climbed false width y e t k h u = absurd (false≢true u)
 
 -- the rows from `top` to before `bottom` of a blit that starts at a corner, where none is above the origin
 module _ (corner width direction a z top bottom : ℕ) (small : (k : ℕ) → k < bottom - top → top + k < 65536)
-    (seen : (k : ℕ) → k < bottom - top → origin ≤ away (bottomToTop direction) (pointOf corner .y) (top + k)) where
+    (visible : (k : ℕ) → k < bottom - top → origin ≤ away (bottomToTop direction) (pointOf corner .y) (top + k)) where
   abbrev edge : ℕ
   edge = leftEdge (rightToLeft direction) (pointOf corner .x) a z
 
@@ -116,8 +119,8 @@ module _ (corner width direction a z top bottom : ℕ) (small : (k : ℕ) → k 
       → away (bottomToTop direction) (placeAt corner width direction a z top) (width * k) ≡ placeAt corner width direction a z (top + k)
   row-on k h =
       let same : top + 0 ≡ top = omega arith in
-      let first = subst (λ r. origin ≤ away (bottomToTop direction) (pointOf corner .y) r) same (seen 0 (omega arith)) in
-      moved-on (bottomToTop direction) width (pointOf corner .y) (edge - origin) top k (y-from corner) (small k h) first (seen k h)
+      let first = subst (λ r. origin ≤ away (bottomToTop direction) (pointOf corner .y) r) same (visible 0 (omega arith)) in
+      moved-on (bottomToTop direction) width (pointOf corner .y) (edge - origin) top k (y-from corner) (small k h) first (visible k h)
 
   rows-fit : (size : ℕ) → width < 34359738368 → a < 65536 → top < bottom → bottom ≤ 65536
       → ((k : ℕ) → k < bottom - top → placeAt corner width direction a z (top + k) + (z - a) ≤ size)
@@ -128,7 +131,7 @@ module _ (corner width direction a z top bottom : ℕ) (small : (k : ℕ) → k 
       let x-small : edge < 262144 = edge-below (rightToLeft direction) (pointOf corner .x) a z (x-below corner) narrow in
       record {
         within = λ k h. rw (row-on k h) (room k h);
-        above = λ u k h. climbed (bottomToTop direction) width (pointOf corner .y) (edge - origin) top k (seen k h) u;
+        above = λ u k h. climbed (bottomToTop direction) width (pointOf corner .y) (edge - origin) top k (visible k h) u;
         far = rows-far width (y - origin) (edge - origin) (bottom - top) wide (omega (arith, y-small)) (omega (arith, x-small)) (omega arith);
       }
 
@@ -138,7 +141,7 @@ counted row rows p q low high = omega arith
 
 -- m visits of each of so many rows from `row` on, from column c on
 module _ (b : Blit) (other : List ℕ) (row rows c m own : ℕ) (fits : (r : ℕ) → row ≤ r → r < row + rows → RowFits b r c m (length other) own)
-    (across down : Span) (columns : across ≡ partOf (seenColumns b) c m) (lines : down ≡ partOf (seenRows b) row rows) where
+    (across down : Range) (columns : across ≡ partOf (visibleColumns b) c m) (lines : down ≡ partOf (visibleRows b) row rows) where
   abbrev rowVisits : ℕ → List ℕ → List ℕ
   rowVisits r = inTurn (λ i. visited b other (widthOf (b .size) * r + c + i)) m
 
@@ -154,19 +157,19 @@ module _ (b : Blit) (other : List ℕ) (row rows c m own : ℕ) (fits : (r : ℕ
   abbrev bottom : ℕ
   bottom = down .past
 
-  begins : a ≡ max c (seenColumns b .from)
+  begins : a ≡ max c (visibleColumns b .from)
   begins = ap (λ s. s .from) columns
 
-  stops : z ≡ min (c + m) (seenColumns b .past)
+  stops : z ≡ min (c + m) (visibleColumns b .past)
   stops = ap (λ s. s .past) columns
 
-  starts : top ≡ max row (seenRows b .from)
+  starts : top ≡ max row (visibleRows b .from)
   starts = ap (λ s. s .from) lines
 
-  ends : bottom ≡ min (row + rows) (seenRows b .past)
+  ends : bottom ≡ min (row + rows) (visibleRows b .past)
   ends = ap (λ s. s .past) lines
 
-  -- row top + k is one of the rows, and is seen
+  -- row top + k is one of the rows, and is visible
   module _ (k : ℕ) (h : k < bottom - top) where
     row-fits : RowFits b (top + k) c m (length other) own
     row-fits = fits (top + k) (omega (arith, starts)) (omega (arith, ends, h))
@@ -186,18 +189,18 @@ module _ (b : Blit) (other : List ℕ) (row rows c m own : ℕ) (fits : (r : ℕ
   small : (k : ℕ) → k < bottom - top → top + k < 65536
   small k h = row-fits k h .row-small
 
-  target-seen : (k : ℕ) → k < bottom - top → origin ≤ targetRow b (top + k)
-  target-seen k h = omega (arith, inside (omega arith) .top-in, row-in k h .low)
+  target-visible : (k : ℕ) → k < bottom - top → origin ≤ targetRow b (top + k)
+  target-visible k h = omega (arith, inside (omega arith) .top-in, row-in k h .low)
 
-  source-seen : reads (b .paint) ≡ true → (k : ℕ) → k < bottom - top → origin ≤ sourceRow b (top + k)
-  source-seen t k h = row-in k h .source t .0
+  source-visible : reads (b .paint) ≡ true → (k : ℕ) → k < bottom - top → origin ≤ sourceRow b (top + k)
+  source-visible t k h = row-in k h .source t .0
 
   target-on : (k : ℕ) → k < bottom - top → away up (place (b .to) (b .width) top) (b .width * k) ≡ place (b .to) (b .width) (top + k)
-  target-on = row-on (b .to) (b .width) (b .direction) a z top bottom small target-seen
+  target-on = row-on (b .to) (b .width) (b .direction) a z top bottom small target-visible
 
   source-on : reads (b .paint) ≡ true → (k : ℕ) → k < bottom - top
       → away up (place (b .from) (sourceWidth b) top) (sourceWidth b * k) ≡ place (b .from) (sourceWidth b) (top + k)
-  source-on t = row-on (b .from) (sourceWidth b) (b .direction) a z top bottom small (source-seen t)
+  source-on t = row-on (b .from) (sourceWidth b) (b .direction) a z top bottom small (source-visible t)
 
   pub box-fits : b .width < 4294967296 → bottom ≤ 65536 → z ≤ 65536 → length other ≡ own
       → BoxFits (b .paint) (b .width) (b .to) (b .from) (b .direction) across down (length other) own
@@ -208,11 +211,11 @@ module _ (b : Blit) (other : List ℕ) (row rows c m own : ℕ) (fits : (r : ℕ
         same = same;
         target =
             λ some lines.
-            rows-fit (b .to) (b .width) (b .direction) a z top bottom small target-seen own (omega (arith, wide)) (omega (arith, some, columns-small)) lines
+            rows-fit (b .to) (b .width) (b .direction) a z top bottom small target-visible own (omega (arith, wide)) (omega (arith, some, columns-small)) lines
             rows-small (λ k h. target-room b other (top + k) c m own (row-fits k h) a z begins stops some (row-in k h));
         source =
             λ t some lines.
-            rows-fit (b .from) (sourceWidth b) (b .direction) a z top bottom small (source-seen t) (sourcePixels (b .paint) own)
+            rows-fit (b .from) (sourceWidth b) (b .direction) a z top bottom small (source-visible t) (sourcePixels (b .paint) own)
             (source-small (b .paint) (b .width) wide) (omega (arith, some, columns-small)) lines rows-small
             (λ k h. source-room b other (top + k) c m own (row-fits k h) a z begins stops some (row-in k h) t);
       }
@@ -242,14 +245,14 @@ module _ (b : Blit) (other : List ℕ) (row rows c m own : ℕ) (fits : (r : ℕ
       (none-in-row b other (row + k) c m own f a z begins stops t
       (λ s.
       let in-rows = row-by b (row + k) (f .row-small) s in
-      ⊎-elim (λ h. before-from row (seenRows b .from) top k starts h (in-rows .0))
-      (λ h. after-past row rows (seenRows b .past) bottom k ends h q (in-rows .1)) out))
+      ⊎-elim (λ h. before-from row (visibleRows b .from) top k starts h (in-rows .0))
+      (λ h. after-past row rows (visibleRows b .past) bottom k ends h q (in-rows .1)) out))
 
   pub box-visits : (l : List ℕ) → boxOf (b .paint) (b .width) (b .to) (b .from) (b .direction) across down other l
       ≡ inTurn (λ k. rowVisits (row + k)) rows l
   unfolding boxOf
   box-visits l =
-      let count : min rows (bottom - row) - (top - row) ≡ bottom - top = counted row rows top bottom (from-least row (seenRows b .from) top starts .0) (past-most (row + rows) (seenRows b .past) bottom ends .0) in
+      let count : min rows (bottom - row) - (top - row) ≡ bottom - top = counted row rows top bottom (from-least row (visibleRows b .from) top starts .0) (past-most (row + rows) (visibleRows b .past) bottom ends .0) in
       sym
       (turn-part (λ k. rowVisits (row + k)) (top - row) (bottom - row) rows l row-idle
       ∙ ap (λ n. inTurn (λ k. rowVisits (row + (top - row + k))) n l) count
@@ -257,8 +260,8 @@ module _ (b : Blit) (other : List ℕ) (row rows c m own : ℕ) (fits : (r : ℕ
       (λ k h t. let e : row + (top - row + k) ≡ top + k = omega (arith, starts) in ap (λ r. rowVisits r t) e ∙ one-row k h t))
 
 -- m visits of one row
-module _ (b : Blit) (other : List ℕ) (row c m own : ℕ) (f : RowFits b row c m (length other) own) (across down : Span)
-    (columns : across ≡ partOf (seenColumns b) c m) (lines : down ≡ partOf (seenRows b) row 1) where
+module _ (b : Blit) (other : List ℕ) (row c m own : ℕ) (f : RowFits b row c m (length other) own) (across down : Range)
+    (columns : across ≡ partOf (visibleColumns b) c m) (lines : down ≡ partOf (visibleRows b) row 1) where
   only-row : (r : ℕ) → row ≤ r → r < row + 1 → RowFits b r c m (length other) own
   only-row r p q = let e : row ≡ r = omega arith in subst (λ r. RowFits b r c m (length other) own) e f
 
@@ -266,7 +269,7 @@ module _ (b : Blit) (other : List ℕ) (row c m own : ℕ) (f : RowFits b row c 
       → BoxFits (b .paint) (b .width) (b .to) (b .from) (b .direction) across down (length other) own
   row-box-fits wide =
       box-fits b other row 1 c m own only-row across down columns lines wide
-      (omega (arith, past-most (row + 1) (seenRows b .past) (down .past) (ap (λ s. s .past) lines) .0, f .row-small))
+      (omega (arith, past-most (row + 1) (visibleRows b .past) (down .past) (ap (λ s. s .past) lines) .0, f .row-small))
       (z-small b other row c m own f (across .from) (across .past) (ap (λ s. s .from) columns) (ap (λ s. s .past) columns))
       (f .other-area ∙ sym (f .own-area))
 
@@ -280,8 +283,8 @@ module _ (b : Blit) (other : List ℕ) (row c m own : ℕ) (f : RowFits b row c 
 
 -- whole rows from the first on
 module _ (b : Blit) (other : List ℕ) (rows own : ℕ) (some : 0 < widthOf (b .size)) (small : b .size < 4294967296)
-    (f : Fitting b 0 (widthOf (b .size) * rows) (length other) own) (across down : Span)
-    (columns : across ≡ partOf (seenColumns b) 0 (widthOf (b .size))) (lines : down ≡ partOf (seenRows b) 0 rows) where
+    (f : Fitting b 0 (widthOf (b .size) * rows) (length other) own) (across down : Range)
+    (columns : across ≡ partOf (visibleColumns b) 0 (widthOf (b .size))) (lines : down ≡ partOf (visibleRows b) 0 rows) where
   abbrev w : ℕ
   w = widthOf (b .size)
 
@@ -311,8 +314,8 @@ module _ (b : Blit) (other : List ℕ) (rows own : ℕ) (some : 0 < widthOf (b .
       → BoxFits (b .paint) (b .width) (b .to) (b .from) (b .direction) across down (length other) own
   whole-box-fits wide =
       box-fits b other 0 rows 0 w own each-row across down columns lines wide
-      (omega (arith, past-most (0 + rows) (seenRows b .past) (down .past) (ap (λ s. s .past) lines) .0, rows-most))
-      (omega (arith, past-most (0 + w) (seenColumns b .past) (across .past) (ap (λ s. s .past) columns) .0, small))
+      (omega (arith, past-most (0 + rows) (visibleRows b .past) (down .past) (ap (λ s. s .past) lines) .0, rows-most))
+      (omega (arith, past-most (0 + w) (visibleColumns b .past) (across .past) (ap (λ s. s .past) columns) .0, small))
       (f .other-area ∙ sym (f .own-area))
 
   pub whole-box-visits : (l k : List ℕ) → k ≡ boxOf (b .paint) (b .width) (b .to) (b .from) (b .direction) across down other l

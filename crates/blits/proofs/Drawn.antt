@@ -16,14 +16,17 @@ use Rattle.lemmas.proofs.Sweeps.{sweep-agree}
 use Rattle.stipples.specs.Stipples.{bitAt, stippled}
 use Rattle.lemmas.specs.Turns.{inTurn}
 use Rattle.geometry.specs.Clip.{placeIn}
-use Rattle.blits.specs.Blits.{painted, reads, sourceWidth, targetAt, sourceAt, drawnAt, visited, seenColumns, targetRow, sourceRow, rowOf, leftEdge}
+use Rattle.blits.specs.Blits.{painted, reads, sourceWidth, targetAt, sourceAt, drawnAt, visited}
+use Rattle.blits.specs.Ranges.{visibleColumns}
+use Rattle.blits.specs.Places.{targetRow, sourceRow, leftEdge}
+use Rattle.blits.specs.Rows.{rowOf}
 use Rattle.blits.specs.declared.Blit.{Blit}
 use Rattle.blits.specs.declared.Paint.{Paint}
 use Rattle.blits.specs.declared.Paint.the-variants.{Solid, Copied, Moved, Stippled, StippledWithin}
 use Rattle.lemmas.proofs.Turns.{turn-idle}
 use Rattle.lemmas.proofs.Sweeps.{turn-sweep}
-use Rattle.blits.proofs.Spans.{x-from, visit-drawn, visit-hidden}
-use Rattle.blits.proofs.Rowwise.{ColumnIn, RowIn, column-of, column-by, target-is, source-is, seen-drawn, drawn-seen}
+use Rattle.blits.proofs.Visits.{x-from, visit-drawn, visit-hidden}
+use Rattle.blits.proofs.Rowwise.{ColumnIn, RowIn, column-of, column-by, target-is, source-is, visible-drawn, drawn-visible}
 
 same-source : (paint : Paint) (other own : List ℕ) (x y d : ℕ) → (reads paint ≡ true → x ≡ y) → painted paint other own x d ≡ painted paint other own y d
 same-source (Solid pen) other own x y d h = refl
@@ -118,28 +121,28 @@ module _ (b : Blit) (other : List ℕ) (r c m : ℕ) (fits : c + m ≤ widthOf (
   at-index : (i : ℕ) → widthOf (b .size) * r + c + i ≡ widthOf (b .size) * r + (c + i)
   at-index i = add-assoc (widthOf (b .size) * r) c i
 
-  abbrev Seen : ℕ → Type 0
-  Seen i = RowIn b r × (seenColumns b .from ≤ c + i) × (c + i < seenColumns b .past)
+  abbrev VisibleAt : ℕ → Type 0
+  VisibleAt i = RowIn b r × (visibleColumns b .from ≤ c + i) × (c + i < visibleColumns b .past)
 
-  seen-of : (i : ℕ) → i < m → drawnAt b (widthOf (b .size) * r + c + i) ≡ true → Seen i
-  seen-of i q d =
-      let seen = drawn-seen b r (c + i) (omega (arith, q, fits)) size-small (subst (λ k. drawnAt b k ≡ true) (at-index i) d) in
-      let columns = column-by b (c + i) (omega (arith, q, fits, size-small)) (seen .1) in
-      (seen .0, columns .0, columns .1)
+  visible-of : (i : ℕ) → i < m → drawnAt b (widthOf (b .size) * r + c + i) ≡ true → VisibleAt i
+  visible-of i q d =
+      let visible = drawn-visible b r (c + i) (omega (arith, q, fits)) size-small (subst (λ k. drawnAt b k ≡ true) (at-index i) d) in
+      let columns = column-by b (c + i) (omega (arith, q, fits, size-small)) (visible .1) in
+      (visible .0, columns .0, columns .1)
 
-  seen-by : (i : ℕ) → i < m → Seen i → drawnAt b (widthOf (b .size) * r + c + i) ≡ true
-  seen-by i q s =
+  visible-by : (i : ℕ) → i < m → VisibleAt i → drawnAt b (widthOf (b .size) * r + c + i) ≡ true
+  visible-by i q s =
       subst (λ k. drawnAt b k ≡ true) (sym (at-index i))
-      (seen-drawn b r (c + i) (omega (arith, q, fits)) size-small (s .0) (column-of b (c + i) (omega (arith, q, fits, size-small)) (s .1) (s .2)))
+      (visible-drawn b r (c + i) (omega (arith, q, fits)) size-small (s .0) (column-of b (c + i) (omega (arith, q, fits, size-small)) (s .1) (s .2)))
 
-  -- a row of which nothing is seen
-  pub row-hidden : (l : List ℕ) → ((i : ℕ) → i < m → Seen i → ⊥) → l ≡ inTurn visit m l
+  -- a row of which nothing is visible
+  pub row-hidden : (l : List ℕ) → ((i : ℕ) → i < m → VisibleAt i → ⊥) → l ≡ inTurn visit m l
   row-hidden l h =
-      sym (turn-idle visit m l (λ i q k. visit-hidden b other (widthOf (b .size) * r + c + i) k (λ d. h i q (seen-of i q d))))
+      sym (turn-idle visit m l (λ i q k. visit-hidden b other (widthOf (b .size) * r + c + i) k (λ d. h i q (visible-of i q d))))
 
-  -- a row of which the columns from a to before z are seen
-  module _ (a z : ℕ) (starts : a ≡ max c (seenColumns b .from)) (ends : z ≡ min (c + m) (seenColumns b .past)) (some : a < z)
-      (seen : RowIn b r) (window-in : origin ≤ b .window .left) where
+  -- a row of which the columns from a to before z are visible
+  module _ (a z : ℕ) (starts : a ≡ max c (visibleColumns b .from)) (ends : z ≡ min (c + m) (visibleColumns b .past)) (some : a < z)
+      (visible : RowIn b r) (window-in : origin ≤ b .window .left) where
     abbrev place : ℕ → ℕ
     place i = placeIn (b .width) (targetAt b (widthOf (b .size) * r + c + i))
 
@@ -149,16 +152,16 @@ module _ (b : Blit) (other : List ℕ) (r c m : ℕ) (fits : c + m ≤ widthOf (
     row-swept : (l : List ℕ) → inTurn visit m l
         ≡ sweep (λ k. place (a - c + k)) (λ k m. painted (b .paint) other m (source (a - c + k)) (getD m (place (a - c + k)) 0)) (z - a) l
     row-swept l =
-        let count = count-of m c a z (from-least c (seenColumns b .from) a starts .0) some (past-most (c + m) (seenColumns b .past) z ends .0) in
+        let count = count-of m c a z (from-least c (visibleColumns b .from) a starts .0) some (past-most (c + m) (visibleColumns b .past) z ends .0) in
         turn-sweep visit place (λ i m. painted (b .paint) other m (source i) (getD m (place i) 0)) (a - c) (z - c) l m
         (λ i q k from to.
         visit-drawn b other (widthOf (b .size) * r + c + i) k
-        (seen-by i q (seen, from-in c (seenColumns b .from) a i starts from, past-in c m (seenColumns b .past) z i ends to)))
+        (visible-by i q (visible, from-in c (visibleColumns b .from) a i starts from, past-in c m (visibleColumns b .past) z i ends to)))
         (λ i q k out.
         visit-hidden b other (widthOf (b .size) * r + c + i) k
         (λ d.
-        let s = seen-of i q d in
-        ⊎-elim (λ h. before-from c (seenColumns b .from) a i starts h (s .1)) (λ h. after-past c m (seenColumns b .past) z i ends h q (s .2)) out))
+        let s = visible-of i q d in
+        ⊎-elim (λ h. before-from c (visibleColumns b .from) a i starts h (s .1)) (λ h. after-past c m (visibleColumns b .past) z i ends h q (s .2)) out))
         ∙ ap (λ n. sweep (λ k. place (a - c + k)) (λ k m. painted (b .paint) other m (source (a - c + k)) (getD m (place (a - c + k)) 0)) n l) count
 
     -- column a + k of the row

@@ -1,4 +1,4 @@
-pub mod Spans
+pub mod Visits
 pub mod Rowwise
 pub mod Drawn
 pub mod Bounds

@@ -14,7 +14,7 @@ use Rattle.rows.proofs.Orders.{fill-turned, copy-turned}
 use Rattle.rows.proofs.Fitting.{filled-row, copied-row, moved-row, moved-back-row}
 use Rattle.stipples.specs.Stipples.{bitAt, stippled}
 use Rattle.stipples.specs.declared.Stipple.{Stipple}
-use Rattle.blits.specs.Blits.{rowOf}
+use Rattle.blits.specs.Rows.{rowOf}
 use Rattle.blits.specs.Bits.{expanded, expandedWithin, expandedBack}
 use Rattle.blits.specs.declared.Paint.the-variants.{Solid, Copied, Moved, Stippled, StippledWithin}
 

@@ -15,11 +15,14 @@ use Rattle.geometry.specs.Blit.{widthOf, rightToLeft, away}
 use Rattle.geometry.specs.declared.Window.{Window}
 use Rattle.geometry.proofs.Clips.{area}
 use Rattle.lemmas.specs.Turns.{inTurn}
-use Rattle.blits.specs.Blits.{reads, sourcePixels, sourceWidth, visited, windowInside, seenColumns, targetRow, sourceRow, rowOf, leftEdge, placeAt, RowFits}
+use Rattle.blits.specs.Blits.{reads, sourcePixels, sourceWidth, visited, windowInside, RowFits}
+use Rattle.blits.specs.Ranges.{visibleColumns}
+use Rattle.blits.specs.Places.{targetRow, sourceRow, leftEdge, placeAt}
+use Rattle.blits.specs.Rows.{rowOf}
 use Rattle.blits.specs.declared.Blit.{Blit}
 use Rattle.blits.specs.declared.Paint.{Paint}
 use Rattle.blits.specs.declared.Paint.the-variants.{Solid, Copied, Moved, Stippled, StippledWithin}
-use Rattle.blits.proofs.Spans.{x-from}
+use Rattle.blits.proofs.Visits.{x-from}
 use Rattle.blits.proofs.Rowwise.{ColumnIn, RowIn, column-of}
 use Rattle.blits.proofs.Drawn.{same-source-row, from-least, past-most, row-hidden, row-drawn}
 
@@ -77,12 +80,12 @@ inside-of width height w h =
     }
 
 module _ (b : Blit) (other : List ℕ) (r c m own : ℕ) (f : RowFits b r c m (length other) own) (a z : ℕ)
-    (begins : a ≡ max c (seenColumns b .from)) (stops : z ≡ min (c + m) (seenColumns b .past)) where
+    (begins : a ≡ max c (visibleColumns b .from)) (stops : z ≡ min (c + m) (visibleColumns b .past)) where
   abbrev visit : ℕ → List ℕ → List ℕ
   visit i l = visited b other (widthOf (b .size) * r + c + i) l
 
   pub z-small : z ≤ 65536
-  z-small = omega (arith, past-most (c + m) (seenColumns b .past) z stops .0, f .columns, f .size-small)
+  z-small = omega (arith, past-most (c + m) (visibleColumns b .past) z stops .0, f .columns, f .size-small)
 
   pub none-in-row : (l : List ℕ) → (RowIn b r → ⊥) → l ≡ inTurn visit m l
   none-in-row l h = row-hidden b other r c m (f .columns) (f .size-small) l (λ i q t. h (t .0))
@@ -90,7 +93,7 @@ module _ (b : Blit) (other : List ℕ) (r c m own : ℕ) (f : RowFits b r c m (l
   pub none-in-columns : (l : List ℕ) → z ≤ a → l ≡ inTurn visit m l
   none-in-columns l h =
       row-hidden b other r c m (f .columns) (f .size-small) l
-      (λ i q t. outside c m (seenColumns b .from) (seenColumns b .past) a z i begins stops h q (t .1) (t .2))
+      (λ i q t. outside c m (visibleColumns b .from) (visibleColumns b .past) a z i begins stops h q (t .1) (t .2))
     where
       outside : (c m from past a z i : ℕ) → a ≡ max c from → z ≡ min (c + m) past → z ≤ a → i < m → from ≤ c + i → c + i < past → ⊥
       outside c m from past a z i e g h q p t = omega arith
@@ -111,8 +114,8 @@ module _ (b : Blit) (other : List ℕ) (r c m own : ℕ) (f : RowFits b r c m (l
     within : (j : ℕ) → a ≤ j → j < z → ColumnIn b j
     within j p q =
         column-of b j (omega (arith, z-small, q))
-        (omega (arith, from-least c (seenColumns b .from) a begins .1, p))
-        (omega (arith, past-most (c + m) (seenColumns b .past) z stops .1, q))
+        (omega (arith, from-least c (visibleColumns b .from) a begins .1, p))
+        (omega (arith, past-most (c + m) (visibleColumns b .past) z stops .1, q))
 
     first : ColumnIn b a
     first = within a (omega arith) some

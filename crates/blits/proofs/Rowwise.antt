@@ -10,10 +10,12 @@ use Rattle.geometry.specs.Clip.{inBuffer}
 use Rattle.geometry.specs.Blit.{widthOf, bottomToTop, rightToLeft, away}
 use Rattle.geometry.specs.declared.Point.{Point}
 use Rattle.geometry.proofs.Windows.{Shown, buffer-of, buffer-by}
-use Rattle.blits.specs.Blits.{reads, sourceWidth, targetAt, sourceAt, drawnAt, spanOf, inBoth, seenSpan, seenColumns, seenRows, targetRow, sourceRow}
+use Rattle.blits.specs.Blits.{reads, sourceWidth, targetAt, sourceAt, drawnAt}
+use Rattle.blits.specs.Ranges.{rangeOf, inBoth, visibleRange, visibleColumns, visibleRows}
+use Rattle.blits.specs.Places.{targetRow, sourceRow}
 use Rattle.blits.specs.declared.Blit.{Blit}
-use Rattle.blits.specs.declared.Span.{Span}
-use Rattle.blits.proofs.Spans.{span-in, span-of, x-from, y-from, point-at, drawn-of, drawn-by}
+use Rattle.blits.specs.declared.ranges.Range.{Range}
+use Rattle.blits.proofs.Visits.{range-in, range-by, x-from, y-from, point-at, drawn-of, drawn-by}
 
 -- j on one axis: in the window, and its source in the buffer
 pub record Within (reads back : Bool) (t lo hi s size j : ℕ) : Type 0 where
@@ -22,44 +24,44 @@ pub record Within (reads back : Bool) (t lo hi s size j : ℕ) : Type 0 where
   pub source : reads ≡ true → (origin ≤ away back s j) × (away back s j < origin + size)
 
 module _ (reads back : Bool) (t lo hi s size j : ℕ) (t-from : 65536 ≤ t) (s-from : 65536 ≤ s) (small : j < 65536) where
-  abbrev seen : Span
-  seen = seenSpan reads back t lo hi s size
+  abbrev visible : Range
+  visible = visibleRange reads back t lo hi s size
 
-  abbrev both-spans : Span
-  both-spans = inBoth (spanOf back t lo hi) (spanOf back s origin (origin + size))
+  abbrev both-ranges : Range
+  both-ranges = inBoth (rangeOf back t lo hi) (rangeOf back s origin (origin + size))
 
-  seen-read : reads ≡ true → seen ≡ both-spans
-  unfolding seenSpan
-  seen-read e = ap (λ r. cond r both-spans (spanOf back t lo hi)) e
+  visible-read : reads ≡ true → visible ≡ both-ranges
+  unfolding visibleRange
+  visible-read e = ap (λ r. cond r both-ranges (rangeOf back t lo hi)) e
 
-  seen-solid : reads ≡ false → seen ≡ spanOf back t lo hi
-  unfolding seenSpan
-  seen-solid e = ap (λ r. cond r both-spans (spanOf back t lo hi)) e
+  visible-solid : reads ≡ false → visible ≡ rangeOf back t lo hi
+  unfolding visibleRange
+  visible-solid e = ap (λ r. cond r both-ranges (rangeOf back t lo hi)) e
 
-  pub within-of : seen .from ≤ j → j < seen .past → Within reads back t lo hi s size j
+  pub within-of : visible .from ≤ j → j < visible .past → Within reads back t lo hi s size j
   within-of f p =
       by-cases reads
       (λ r.
-      let e = seen-read r in
-      let f′ : both-spans .from ≤ j = subst (λ c. c .from ≤ j) e f in
-      let p′ : j < both-spans .past = subst (λ c. j < c .past) e p in
-      let q = span-in back t lo hi j t-from small (omega (arith, f′)) (omega (arith, p′)) in
-      record { low = q .0; high = q .1; source = λ _. span-in back s origin (origin + size) j s-from small (omega (arith, f′)) (omega (arith, p′)) })
+      let e = visible-read r in
+      let f′ : both-ranges .from ≤ j = subst (λ c. c .from ≤ j) e f in
+      let p′ : j < both-ranges .past = subst (λ c. j < c .past) e p in
+      let q = range-in back t lo hi j t-from small (omega (arith, f′)) (omega (arith, p′)) in
+      record { low = q .0; high = q .1; source = λ _. range-in back s origin (origin + size) j s-from small (omega (arith, f′)) (omega (arith, p′)) })
       (λ r.
-      let e = seen-solid r in
-      let q = span-in back t lo hi j t-from small (subst (λ c. c .from ≤ j) e f) (subst (λ c. j < c .past) e p) in
+      let e = visible-solid r in
+      let q = range-in back t lo hi j t-from small (subst (λ c. c .from ≤ j) e f) (subst (λ c. j < c .past) e p) in
       record { low = q .0; high = q .1; source = λ u. absurd (false≢true (sym r ∙ u)) })
 
-  pub within-by : Within reads back t lo hi s size j → (seen .from ≤ j) × (j < seen .past)
+  pub within-by : Within reads back t lo hi s size j → (visible .from ≤ j) × (j < visible .past)
   within-by w =
-      let q = span-of back t lo hi j t-from small (w .low) (w .high) in
+      let q = range-by back t lo hi j t-from small (w .low) (w .high) in
       by-cases reads
       (λ r.
-      let e = sym (seen-read r) in
+      let e = sym (visible-read r) in
       let p = w .source r in
-      let u = span-of back s origin (origin + size) j s-from small (p .0) (p .1) in
+      let u = range-by back s origin (origin + size) j s-from small (p .0) (p .1) in
       (subst (λ c. c .from ≤ j) e (omega (arith, q .0, u .0)), subst (λ c. j < c .past) e (omega (arith, q .1, u .1))))
-      (λ r. let e = sym (seen-solid r) in (subst (λ c. c .from ≤ j) e (q .0), subst (λ c. j < c .past) e (q .1)))
+      (λ r. let e = sym (visible-solid r) in (subst (λ c. c .from ≤ j) e (q .0), subst (λ c. j < c .past) e (q .1)))
 
 -- the columns and the rows of a blit
 abbrev pub ColumnIn : Blit → ℕ → Type 0
@@ -71,20 +73,20 @@ RowIn b r =
     Within (reads (b .paint)) (bottomToTop (b .direction)) (pointOf (b .to) .y) (b .window .top) (b .window .bottom) (pointOf (b .from) .y) (b .height) r
 
 module _ (b : Blit) (j : ℕ) (small : j < 65536) where
-  pub column-of : seenColumns b .from ≤ j → j < seenColumns b .past → ColumnIn b j
-  unfolding seenColumns
+  pub column-of : visibleColumns b .from ≤ j → j < visibleColumns b .past → ColumnIn b j
+  unfolding visibleColumns
   column-of = within-of (reads (b .paint)) _ (pointOf (b .to) .x) _ _ (pointOf (b .from) .x) _ j (x-from (b .to)) (x-from (b .from)) small
 
-  pub column-by : ColumnIn b j → (seenColumns b .from ≤ j) × (j < seenColumns b .past)
-  unfolding seenColumns
+  pub column-by : ColumnIn b j → (visibleColumns b .from ≤ j) × (j < visibleColumns b .past)
+  unfolding visibleColumns
   column-by = within-by (reads (b .paint)) _ (pointOf (b .to) .x) _ _ (pointOf (b .from) .x) _ j (x-from (b .to)) (x-from (b .from)) small
 
-  pub row-of : seenRows b .from ≤ j → j < seenRows b .past → RowIn b j
-  unfolding seenRows
+  pub row-of : visibleRows b .from ≤ j → j < visibleRows b .past → RowIn b j
+  unfolding visibleRows
   row-of = within-of (reads (b .paint)) _ (pointOf (b .to) .y) _ _ (pointOf (b .from) .y) _ j (y-from (b .to)) (y-from (b .from)) small
 
-  pub row-by : RowIn b j → (seenRows b .from ≤ j) × (j < seenRows b .past)
-  unfolding seenRows
+  pub row-by : RowIn b j → (visibleRows b .from ≤ j) × (j < visibleRows b .past)
+  unfolding visibleRows
   row-by = within-by (reads (b .paint)) _ (pointOf (b .to) .y) _ _ (pointOf (b .from) .y) _ j (y-from (b .to)) (y-from (b .from)) small
 
 -- visit j of row r is drawn where row and column are
@@ -101,8 +103,8 @@ module _ (b : Blit) (r j : ℕ) (fits : j < widthOf (b .size)) (size-small : b .
   pub source-is : sourceAt b k ≡ record { x = away (rightToLeft (b .direction)) (pointOf (b .from) .x) j; y = sourceRow b r }
   source-is = point-at (pointOf (b .from)) (b .size) (b .direction) r j fits
 
-  pub seen-drawn : RowIn b r → ColumnIn b j → drawnAt b k ≡ true
-  seen-drawn s w =
+  pub visible-drawn : RowIn b r → ColumnIn b j → drawnAt b k ≡ true
+  visible-drawn s w =
       drawn-by b k
       (subst (Shown (b .window)) (sym target-is)
       (record { from-left = w .low; to-right = w .high; from-top = s .low; to-bottom = s .high }))
@@ -113,8 +115,8 @@ module _ (b : Blit) (r j : ℕ) (fits : j < widthOf (b .size)) (size-small : b .
       buffer-by (sourceWidth b) (b .height) (record { x = away (rightToLeft (b .direction)) (pointOf (b .from) .x) j; y = sourceRow b r }) (x .0) (y .0)
       (omega (arith, x .0, x .1)) (omega (arith, y .0, y .1))))
 
-  pub drawn-seen : drawnAt b k ≡ true → RowIn b r × ColumnIn b j
-  drawn-seen h =
+  pub drawn-visible : drawnAt b k ≡ true → RowIn b r × ColumnIn b j
+  drawn-visible h =
       let d = drawn-of b k h in
       let s = subst (Shown (b .window)) target-is (d .0) in
       let q : Point = record { x = away (rightToLeft (b .direction)) (pointOf (b .from) .x) j; y = sourceRow b r } in

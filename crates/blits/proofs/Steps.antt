@@ -10,7 +10,8 @@ use native.Mathlib.Omega.{arith}
 use Rattle.geometry.specs.Blit.{away}
 use Rattle.lemmas.specs.Turns.{inTurn}
 use Rattle.lemmas.proofs.Turns.{turn-more}
-use Rattle.blits.specs.Blits.{sourcePixels, rowOf, rowAt, RowsFit}
+use Rattle.blits.specs.Blits.{sourcePixels}
+use Rattle.blits.specs.Rows.{rowOf, rowAt, RowsFit}
 use Rattle.blits.specs.Bits.{BitsFit, Apart}
 use Rattle.blits.specs.declared.Paint.{Paint}
 

@@ -1,2 +1,5 @@
 pub mod Blits
+pub mod Ranges
+pub mod Places
+pub mod Rows
 pub mod Bits

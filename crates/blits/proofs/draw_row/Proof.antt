@@ -1,7 +1,7 @@
 use borrow.Author.Needs.{needs}
 use mathlib.Core.Path.{ap, _∙_}
 use Prim.Native.Nat.{_<_}
-use Rattle.blits.specs.Blits.{partOf}
+use Rattle.blits.specs.Ranges.{partOf}
 use Rattle.blits.proofs.Boxes.{row-box-fits, row-box-visits}
 use Rattle.blits.proofs.draw_row.Statement.{statement}
 use Rattle.blits.proofs.draw_row.Tie as tie
@@ -21,7 +21,7 @@ paint-box-requires c κs =
     let columns = rows .before in
     let start = columns .before .before .before in
     let s = start .args in
-    row-box-fits (s .b) (s .other .now) (s .row) (s .column) (s .m) _ (start .pre .0) _ _ (columns .part .ensures ∙ ap (λ seen. partOf (seen .columns) (s .column) (s .m)) (start .pre .1)) (rows .part2 .ensures ∙ ap (λ seen. partOf (seen .rows) (s .row) 1) (start .pre .1))
+    row-box-fits (s .b) (s .other .now) (s .row) (s .column) (s .m) _ (start .pre .0) _ _ (columns .part .ensures ∙ ap (λ visible. partOf (visible .columns) (s .column) (s .m)) (start .pre .1)) (rows .part2 .ensures ∙ ap (λ visible. partOf (visible .rows) (s .row) 1) (start .pre .1))
     (wide start)
 
 same-length : tie.Need-same-length
@@ -34,7 +34,7 @@ returns c =
     let columns = rows .before in
     let start = columns .before .before .before in
     let s = start .args in
-    row-box-visits (s .b) (s .other .now) (s .row) (s .column) (s .m) _ (start .pre .0) _ _ (columns .part .ensures ∙ ap (λ seen. partOf (seen .columns) (s .column) (s .m)) (start .pre .1)) (rows .part2 .ensures ∙ ap (λ seen. partOf (seen .rows) (s .row) 1) (start .pre .1))
+    row-box-visits (s .b) (s .other .now) (s .row) (s .column) (s .m) _ (start .pre .0) _ _ (columns .part .ensures ∙ ap (λ visible. partOf (visible .columns) (s .column) (s .m)) (start .pre .1)) (rows .part2 .ensures ∙ ap (λ visible. partOf (visible .rows) (s .row) 1) (start .pre .1))
     _ _ (done .paint-box .ensures)
 
 pub draw-row-spec : {M : Type 1} → statement M

@@ -6,25 +6,26 @@ use lib.ListN.{length}
 use Rattle.geometry.specs.Blit.{widthOf}
 use Rattle.geometry.proofs.Blits.{count-lt}
 use Rattle.lemmas.specs.Turns.{inTurn}
-use Rattle.blits.specs.Blits.{visited, seenOf, Fitting, RowFits}
+use Rattle.blits.specs.Blits.{visited, Fitting, RowFits}
+use Rattle.blits.specs.Ranges.{visibleOf}
 use Rattle.lemmas.proofs.Turns.{turn-none}
 use Rattle.blits.proofs.Loops.{across-some, Stands, stands-first, stands-next, row-fits, visits-more, all-rows}
 use Rattle.blits.proofs.draw_rows.Statement.{statement}
 use Rattle.blits.proofs.draw_rows.Tie as tie
 
 abbrev Inv-loop : tie.InvT-loop
-Inv-loop b seen first n buffer₀ other across row₀ column₀ k₀ buffer row column k =
+Inv-loop b visible first n buffer₀ other across row₀ column₀ k₀ buffer row column k =
     (k ≤ n)
     × (length buffer ≡ length buffer₀)
     × Fitting b first n (length other) (length buffer₀)
-    × (seen ≡ seenOf b)
+    × (visible ≡ visibleOf b)
     × (across ≡ widthOf (b .size))
     × (b .size < 4294967296)
     × (k < n → Stands (widthOf (b .size)) first k row column)
     × (buffer ≡ inTurn (λ i. visited b other (first + i)) k buffer₀)
 
 abbrev μ-loop : tie.MeasureT-loop
-μ-loop b seen first n buffer₀ other across row₀ column₀ k₀ buffer row column k = n - k
+μ-loop b visible first n buffer₀ other across row₀ column₀ k₀ buffer row column k = n - k
 
 cast-across : tie.Need-cast-across Inv-loop μ-loop
 cast-across c = search needs

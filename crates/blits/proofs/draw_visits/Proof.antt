@@ -16,8 +16,8 @@ size-small c = search needs
 some-columns : (c : tie.Start) → 0 < widthOf (c .args .b .size)
 some-columns c = across-some _ _ _ _ _ (c .pre .1) (c .pre .0)
 
-seen-of-requires : tie.Need-seen-of-requires
-seen-of-requires c κs = search needs
+visible-of-requires : tie.Need-visible-of-requires
+visible-of-requires c κs = search needs
 
 whole-rows-requires : tie.Need-whole-rows-requires
 whole-rows-requires c κs =
@@ -33,11 +33,11 @@ mul-done c = omega (arith, c .before .whole-rows .ensures .fit)
 draw-whole-requires : tie.Need-draw-whole-requires
 draw-whole-requires c κs =
     let counted = c .before .before in
-    let seen = counted .before in
-    let start = seen .before .before .before in (
+    let visible = counted .before in
+    let start = visible .before .before .before in (
       some-columns start,
       whole-fits _ _ _ _ (counted .whole-rows .ensures) _ _ (start .pre .1),
-      seen .seen-of .ensures,
+      visible .visible-of .ensures,
     )
 
 same-length : tie.Need-same-length
@@ -64,11 +64,11 @@ draw-rows-requires : tie.Need-draw-rows-requires
 draw-rows-requires c κs =
     let whole = c .before .before .before .before in
     let counted = whole .before .before .before in
-    let seen = counted .before in
-    let start = seen .before .before .before in (
+    let visible = counted .before in
+    let start = visible .before .before .before in (
       omega (arith, counted .whole-rows .ensures .fit),
       rest-fits _ _ _ _ (counted .whole-rows .ensures) _ _ _ (whole .draw-whole .kept .1 .1 .1 .0) (start .pre .1),
-      seen .seen-of .ensures,
+      visible .visible-of .ensures,
     )
 
 same-length-2 : tie.Need-same-length-2
@@ -86,7 +86,7 @@ pub draw-visits-spec : {M : Type 1} → statement M
 draw-visits-spec =
     tie.close
     (tie.spec
-    seen-of-requires
+    visible-of-requires
     whole-rows-requires
     cast-done
     mul-done

@@ -1,0 +1,148 @@
+// Rows of pixels, each as far from the one before it, down or up: a loop for each kind of paint, those by bits in bit_loops.rt.
+ghost use mathlib.Core.Path.{_≡_};
+ghost use mathlib.Core.Bool.{Bool, true};
+ghost use mathlib.Core.List.{List};
+ghost use Prim.Native.Nat.{ℕ, _+_, _*_, _≤_};
+ghost use lib.ListN.{length};
+ghost use Rattle.lemmas.specs.Turns.{inTurn};
+ghost use Rattle.rows.specs.Rows.{filledRow};
+ghost use Rattle.blits.specs.declared.Paint.the-variants.{Solid, Copied, Moved, Stippled, StippledWithin};
+ghost use Rattle.blits.specs.Blits.{reads, sourcePixels};
+ghost use Rattle.blits.specs.Rows.{rowOf, rowAt, RowsFit};
+use crate::Paint;
+use crate::bit_loops::stipple_rows;
+use crate::bit_loops::stipple_within;
+use crate::places::along;
+use raster::Pen;
+use rows::Mix;
+use rows::copy_row;
+use rows::fill_narrow;
+use rows::fill_row;
+use rows::move_row;
+use rows::move_row_back;
+use stipples::Stipple;
+
+// n pixels of a row from the same buffer.
+fn move_pixels(back: bool, buffer: &mut [u8], at: usize, from: usize, n: usize, mix: Mix)
+    requires { ⌜ (at + n ≤ length (now buffer)) × (from + n ≤ length (now buffer)) ⌝ }
+    ensures { λ _. ⌜ ((other : List ℕ) → now (buffer .exit) ≡ rowOf (Moved mix) back other at from n (now (buffer .entry))) ⌝ }
+{
+    if back {
+        move_row_back(buffer, at + n, from + n, n, mix);
+        return;
+    }
+    move_row(buffer, at, from, n, mix);
+}
+
+// n pixels of a row with one pen.
+fn fill_one(buffer: &mut [u8], at: usize, n: usize, pen: Pen)
+    ensures { λ _. ⌜ now (buffer .exit) ≡ filledRow pen n (now (buffer .entry)) at ⌝ }
+{
+    if n <= 16 {
+        fill_narrow(buffer, at, n, pen);
+        return;
+    }
+    fill_row(buffer, at, n, pen);
+}
+
+// n pixels of each of so many rows, down or up from a row that begins at `at`.
+fn fill_rows(up: bool, width: usize, buffer: &mut [u8], at: usize, n: usize, rows: usize, pen: Pen)
+    requires { ⌜ RowsFit up width at n rows (length (now buffer)) ⌝ }
+    ensures { λ _. ⌜ ((back : Bool) (stride : ℕ) (other : List ℕ) (from : ℕ) → now (buffer .exit) ≡ inTurn (rowAt (Solid pen) back up width stride other at from n) rows (now (buffer .entry))) ⌝ }
+{
+    let mut to = at;
+    let mut k: usize = 0;
+    while k < rows {
+        fill_one(buffer, to, n, pen);
+        to = along(up, to, width);
+        k += 1;
+    }
+}
+
+fn copy_rows(
+    up: bool,
+    width: usize,
+    stride: usize,
+    buffer: &mut [u8],
+    at: usize,
+    other: &[u8],
+    from: usize,
+    n: usize,
+    rows: usize,
+    mix: Mix,
+)
+    requires { ⌜ RowsFit up width at n rows (length (now buffer)) × RowsFit up stride from n rows (length (now other)) ⌝ }
+    ensures { λ _. ⌜ ((back : Bool) → now (buffer .exit) ≡ inTurn (rowAt (Copied mix) back up width stride (now (other .entry)) at from n) rows (now (buffer .entry))) ⌝ }
+{
+    let mut to = at;
+    let mut source = from;
+    let mut k: usize = 0;
+    while k < rows {
+        copy_row(buffer, to, other, source, n, mix);
+        to = along(up, to, width);
+        source = along(up, source, stride);
+        k += 1;
+    }
+}
+
+fn move_rows(
+    back: bool,
+    up: bool,
+    width: usize,
+    stride: usize,
+    buffer: &mut [u8],
+    at: usize,
+    from: usize,
+    n: usize,
+    rows: usize,
+    mix: Mix,
+)
+    requires { ⌜ RowsFit up width at n rows (length (now buffer)) × RowsFit up stride from n rows (length (now buffer)) ⌝ }
+    ensures { λ _. ⌜ ((other : List ℕ) → now (buffer .exit) ≡ inTurn (rowAt (Moved mix) back up width stride other at from n) rows (now (buffer .entry))) ⌝ }
+{
+    let mut to = at;
+    let mut source = from;
+    let mut k: usize = 0;
+    while k < rows {
+        move_pixels(back, buffer, to, source, n, mix);
+        to = along(up, to, width);
+        source = along(up, source, stride);
+        k += 1;
+    }
+}
+
+// The same, whatever the rows are painted from: a loop for each.
+pub(crate) fn paint_rows(
+    paint: Paint,
+    back: bool,
+    up: bool,
+    width: usize,
+    stride: usize,
+    buffer: &mut [u8],
+    at: usize,
+    other: &[u8],
+    from: usize,
+    n: usize,
+    rows: usize,
+)
+    requires { ⌜ RowsFit up width at n rows (length (now buffer)) × (length (now other) ≡ length (now buffer)) × (reads paint ≡ true → RowsFit up stride from n rows (sourcePixels paint (length (now buffer)))) × (stride ≡ sourcePixels paint width) ⌝ }
+    ensures { λ _. ⌜ now (buffer .exit) ≡ inTurn (rowAt paint back up width stride (now (other .entry)) at from n) rows (now (buffer .entry)) ⌝ }
+{
+    match paint {
+        Paint::Solid(pen) => {
+            fill_rows(up, width, buffer, at, n, rows, pen);
+        }
+        Paint::Copied(mix) => {
+            copy_rows(up, width, stride, buffer, at, other, from, n, rows, mix);
+        }
+        Paint::Moved(mix) => {
+            move_rows(back, up, width, stride, buffer, at, from, n, rows, mix);
+        }
+        Paint::Stippled(s) => {
+            stipple_rows(up, width, buffer, at, other, from, n, rows, s);
+        }
+        Paint::StippledWithin(s) => {
+            stipple_within(back, up, width, buffer, at, from, n, rows, s);
+        }
+    }
+}
