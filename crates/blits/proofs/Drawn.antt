@@ -1,6 +1,6 @@
 -- The drawn visits of one row are one row of bytes.
 -- Assumes nothing.
-use mathlib.Core.Path.{_≡_, refl, ap, sym, subst, _∙_}
+use mathlib.Core.Path.{_≡_, ap, sym, subst, _∙_}
 use mathlib.Core.Bool.{Bool, true, false, cond}
 use mathlib.Core.List.{List}
 use mathlib.Core.Logic.{⊎-elim}
@@ -11,9 +11,7 @@ use lib.ListN.{getD}
 use Rattle.geometry.specs.Coordinates.{origin, pointOf}
 use Rattle.geometry.specs.Blit.{widthOf, rightToLeft, away}
 use Rattle.lemmas.specs.Sweeps.{sweep}
-use Rattle.rows.specs.Rows.{mixed}
-use Rattle.lemmas.proofs.Sweeps.{sweep-agree}
-use Rattle.stipples.specs.Stipples.{bitAt, stippled}
+use Rattle.lemmas.proofs.Sweeps.{sweep-agree, turn-sweep}
 use Rattle.lemmas.specs.Turns.{inTurn}
 use Rattle.geometry.specs.Clip.{placeIn}
 use Rattle.blits.specs.Blits.{painted, reads, sourceWidth, targetAt, sourceAt, drawnAt, visited}
@@ -22,29 +20,10 @@ use Rattle.blits.specs.Places.{targetRow, sourceRow, leftEdge}
 use Rattle.blits.specs.Rows.{rowOf}
 use Rattle.blits.specs.declared.Blit.{Blit}
 use Rattle.blits.specs.declared.Paint.{Paint}
-use Rattle.blits.specs.declared.Paint.the-variants.{Solid, Copied, Moved, Stippled, StippledWithin}
 use Rattle.lemmas.proofs.Turns.{turn-idle}
-use Rattle.lemmas.proofs.Sweeps.{turn-sweep}
+use Rattle.blits.proofs.Painted.{same-source}
 use Rattle.blits.proofs.Visits.{x-from, visit-drawn, visit-hidden}
 use Rattle.blits.proofs.Rowwise.{ColumnIn, RowIn, column-of, column-by, target-is, source-is, visible-drawn, drawn-visible}
-
-same-source : (paint : Paint) (other own : List ℕ) (x y d : ℕ) → (reads paint ≡ true → x ≡ y) → painted paint other own x d ≡ painted paint other own y d
-same-source (Solid pen) other own x y d h = refl
-same-source (Copied mix) other own x y d h = ap (λ x. mixed mix (getD other x 0) d) (h refl)
-same-source (Moved mix) other own x y d h = ap (λ x. mixed mix (getD own x 0) d) (h refl)
-same-source (Stippled s) other own x y d h = ap (λ x. stippled s (bitAt other x) d) (h refl)
-same-source (StippledWithin s) other own x y d h = ap (λ x. stippled s (bitAt own x) d) (h refl)
-
--- a row is the same from another place where nothing is read
-pub same-source-row : (paint : Paint) (back : Bool) (other : List ℕ) (at x y n : ℕ) (l : List ℕ) → (reads paint ≡ true → x ≡ y)
-    → rowOf paint back other at x n l ≡ rowOf paint back other at y n l
-unfolding rowOf
-same-source-row (Solid pen) false other at x y n l h = refl
-same-source-row (Solid pen) true other at x y n l h = refl
-same-source-row (Copied mix) back other at x y n l h = ap (λ x. rowOf (Copied mix) back other at x n l) (h refl)
-same-source-row (Moved mix) back other at x y n l h = ap (λ x. rowOf (Moved mix) back other at x n l) (h refl)
-same-source-row (Stippled s) back other at x y n l h = ap (λ x. rowOf (Stippled s) back other at x n l) (h refl)
-same-source-row (StippledWithin s) back other at x y n l h = ap (λ x. rowOf (StippledWithin s) back other at x n l) (h refl)
 
 -- a sweep over the places of a row, in either direction
 sweep-row : (paint : Paint) (back : Bool) (other : List ℕ) (at from n : ℕ) (place source : ℕ → ℕ)

@@ -6,6 +6,6 @@ pub mod Painted
 pub mod Rooms
 pub mod Words
 pub mod Blocks
-pub mod Steps
+pub mod Rowed
 pub mod Loops
 pub mod Boxes

@@ -1,11 +1,12 @@
 -- A row painted is a row of visits, whatever it is painted from.
 -- Assumes nothing.
-use mathlib.Core.Path.{_≡_, ap, sym, _∙_}
+use mathlib.Core.Path.{_≡_, refl, ap, sym, subst, _∙_}
 use mathlib.Core.Bool.{Bool, true, false, cond}
 use mathlib.Core.List.{List}
 use Prim.Native.Nat.{ℕ, _+_, _≤_}
 use native.Mathlib.Omega.{arith}
-use lib.ListN.{length}
+use lib.ListN.{length, getD}
+use Rattle.lemmas.specs.Turns.{inTurn}
 use Rattle.raster.specs.declared.Pen.{Pen}
 use Rattle.rows.specs.Rows.{mixed, filledRow, copiedRow, movedRow, movedBackRow}
 use Rattle.rows.specs.declared.Mix.{Mix}
@@ -14,8 +15,10 @@ use Rattle.rows.proofs.Orders.{fill-turned, copy-turned}
 use Rattle.rows.proofs.Fitting.{filled-row, copied-row, moved-row, moved-back-row}
 use Rattle.stipples.specs.Stipples.{bitAt, stippled}
 use Rattle.stipples.specs.declared.Stipple.{Stipple}
-use Rattle.blits.specs.Rows.{rowOf}
+use Rattle.blits.specs.Blits.{painted, reads, sourcePixels}
+use Rattle.blits.specs.Rows.{rowOf, rowAt, RowsFit}
 use Rattle.blits.specs.Bits.{expanded, expandedWithin, expandedBack}
+use Rattle.blits.specs.declared.Paint.{Paint}
 use Rattle.blits.specs.declared.Paint.the-variants.{Solid, Copied, Moved, Stippled, StippledWithin}
 
 pub solid-row : (back : Bool) (pen : Pen) (other l r : List ℕ) (at from n : ℕ) → at + n ≤ length l → r ≡ filledRow pen n l at
@@ -55,3 +58,35 @@ pub stippled-within : (back : Bool) (s : Stipple) (l r : List ℕ) (at from n : 
 unfolding rowOf
 stippled-within false s l r at from n e other = e
 stippled-within true s l r at from n e other = e
+
+-- the new byte is the same from another source where nothing is read
+pub same-source : (paint : Paint) (other own : List ℕ) (x y d : ℕ) → (reads paint ≡ true → x ≡ y) → painted paint other own x d ≡ painted paint other own y d
+same-source (Solid pen) other own x y d h = refl
+same-source (Copied mix) other own x y d h = ap (λ x. mixed mix (getD other x 0) d) (h refl)
+same-source (Moved mix) other own x y d h = ap (λ x. mixed mix (getD own x 0) d) (h refl)
+same-source (Stippled s) other own x y d h = ap (λ x. stippled s (bitAt other x) d) (h refl)
+same-source (StippledWithin s) other own x y d h = ap (λ x. stippled s (bitAt own x) d) (h refl)
+
+-- a row is the same from another place where nothing is read
+pub same-source-row : (paint : Paint) (back : Bool) (other : List ℕ) (at x y n : ℕ) (l : List ℕ) → (reads paint ≡ true → x ≡ y)
+    → rowOf paint back other at x n l ≡ rowOf paint back other at y n l
+unfolding rowOf
+same-source-row (Solid pen) false other at x y n l h = refl
+same-source-row (Solid pen) true other at x y n l h = refl
+same-source-row (Copied mix) back other at x y n l h = ap (λ x. rowOf (Copied mix) back other at x n l) (h refl)
+same-source-row (Moved mix) back other at x y n l h = ap (λ x. rowOf (Moved mix) back other at x n l) (h refl)
+same-source-row (Stippled s) back other at x y n l h = ap (λ x. rowOf (Stippled s) back other at x n l) (h refl)
+same-source-row (StippledWithin s) back other at x y n l h = ap (λ x. rowOf (StippledWithin s) back other at x n l) (h refl)
+
+-- of the paint that it is
+pub rows-by-paint : (p q : Paint) (back up : Bool) (width stride : ℕ) (other : List ℕ) (at from n rows : ℕ) (l r : List ℕ) → p ≡ q
+    → r ≡ inTurn (rowAt q back up width stride other at from n) rows l → r ≡ inTurn (rowAt p back up width stride other at from n) rows l
+rows-by-paint p q back up width stride other at from n rows l r e h =
+    h ∙ ap (λ p. inTurn (rowAt p back up width stride other at from n) rows l) (sym e)
+
+pub stride-by-paint : (p q : Paint) (width stride : ℕ) → p ≡ q → stride ≡ sourcePixels p width → stride ≡ sourcePixels q width
+stride-by-paint p q width stride e h = h ∙ ap (λ p. sourcePixels p width) e
+
+pub fit-by-paint : (p q : Paint) (up : Bool) (stride from n rows own : ℕ) → p ≡ q → RowsFit up stride from n rows (sourcePixels p own)
+    → RowsFit up stride from n rows (sourcePixels q own)
+fit-by-paint p q up stride from n rows own e f = subst (λ p. RowsFit up stride from n rows (sourcePixels p own)) e f

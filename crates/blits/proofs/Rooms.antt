@@ -24,7 +24,8 @@ use Rattle.blits.specs.declared.Paint.{Paint}
 use Rattle.blits.specs.declared.Paint.the-variants.{Solid, Copied, Moved, Stippled, StippledWithin}
 use Rattle.blits.proofs.Visits.{x-from}
 use Rattle.blits.proofs.Rowwise.{ColumnIn, RowIn, column-of}
-use Rattle.blits.proofs.Drawn.{same-source-row, from-least, past-most, row-hidden, row-drawn}
+use Rattle.blits.proofs.Painted.{same-source-row}
+use Rattle.blits.proofs.Drawn.{from-least, past-most, row-hidden, row-drawn}
 
 pub edge-below : (back : Bool) (x a z : ℕ) → x < 131072 → a < 65536 → leftEdge back x a z < 262144
 edge-below true x a z h k = omega arith

@@ -1,5 +1,5 @@
 -- Rows of pixels (01, Pixels): one visit after the other, each on the bytes as they stand at that visit.
-use mathlib.Core.Bool.{Bool, cond, _&&_}
+use mathlib.Core.Bool.{cond, _&&_}
 use mathlib.Core.List.{List}
 use Prim.Native.Nat.{ℕ, _+_, _-_}
 use lib.Dec.{eqb, leb}

@@ -1,33 +1,19 @@
+-- The loop keeps `Rowed`: k rows are drawn and the rest are as before. Each turn is one row more, by `rowed-turn`.
+-- A place in the source is a bit: that of its byte, eight times, and the same bit of a byte for all rows.
 use borrow.Author.Needs.{needs}
-use mathlib.Core.Path.{_≡_, refl, _∙_}
-use mathlib.Core.Bool.{Bool}
-use mathlib.Core.Logic.{_⊎_}
-use Prim.Native.Nat.{_-_, _*_, _/_, _%_, _≤_}
+use mathlib.Core.Path.{refl}
+use mathlib.Core.Bool.{Bool, false}
+use Prim.Native.Nat.{_+_, _-_, _*_}
 use native.Mathlib.Omega.{arith}
-use lib.ListN.{length}
-use Rattle.geometry.specs.Blit.{away}
-use Rattle.stipples.specs.Words.{inksOf}
-use Rattle.lemmas.specs.Turns.{inTurn}
-use Rattle.lemmas.proofs.Turns.{turn-none, turn-end}
-use Rattle.blits.specs.Rows.{rowAt, RowsFit}
 use Rattle.blits.specs.declared.Paint.the-variants.{Stippled}
 use Rattle.blits.proofs.Painted.{stippled-from}
-use Rattle.blits.proofs.Steps.{first-row, next-row, row-inside, row-far, bit-place, bits-inside, byte-far, row-more}
+use Rattle.blits.proofs.Rowed.{Rowed, rowed-start, rowed-turn, rowed-end, row-inside, source-inside, row-far, source-far, bits-next}
 use Rattle.blits.proofs.bit_loops.narrow_rows.Statement.{statement}
 use Rattle.blits.proofs.bit_loops.narrow_rows.Tie as tie
 
 abbrev Inv-loop : tie.InvT-loop
 Inv-loop up width buffer₀ at other from n rows s inks first to₀ byte₀ k₀ buffer to byte k =
-    (k ≤ rows)
-    × ((n ≡ 8) ⊎ (n ≡ 16))
-    × (length buffer ≡ length buffer₀)
-    × RowsFit up width at n rows (length buffer₀)
-    × RowsFit up (8 * width) from n rows (8 * length other)
-    × (inks ≡ inksOf s)
-    × (first ≡ from % 8)
-    × (to ≡ away up at (width * k))
-    × (byte ≡ away up (from / 8) (width * k))
-    × ((back : Bool) → buffer ≡ inTurn (rowAt (Stippled s) back up width (8 * width) other at from n) k buffer₀)
+    (back : Bool) → Rowed (Stippled s) back up width (8 * width) other at from n rows buffer₀ buffer to (8 * byte + first) k
 
 abbrev μ-loop : tie.MeasureT-loop
 μ-loop up width buffer₀ at other from n rows s inks first to₀ byte₀ k₀ buffer to byte k = rows - k
@@ -38,35 +24,19 @@ inks-requires c κs = search needs
 loop-holds : tie.Need-loop-holds Inv-loop μ-loop
 loop-holds c =
     let start = c .before .before .before in
-    let s = start .args in (
-      omega arith,
-      start .pre .0,
-      refl,
-      start .pre .1,
-      start .pre .2,
-      c .inks .ensures,
-      refl,
-      first-row (s .up) (s .width) (s .at),
-      first-row (s .up) (s .width) (s .from / 8),
-      λ back. turn-none _ _,
-    )
+    λ back. rowed-start _ back _ _ _ _ _ _ _ _ _ _ (start .pre .1) (λ _. start .pre .2) (omega arith)
 
 expand-narrow-requires : tie.Need-expand-narrow-requires Inv-loop μ-loop
 expand-narrow-requires c κs =
-    let at = c .before .before in (
-      at .loop .inv .1,
-      at .loop .inv .5,
-      rw (at .loop .inv .2) (row-inside _ _ _ _ _ _ _ _ (at .loop .inv .3) (at .loop .inv .7) (omega arith)),
-      bits-inside _ _ _ _ _ _ _ _ _ (at .loop .inv .4) (at .loop .inv .8) (at .loop .inv .6) (omega arith),
-    )
+    let at = c .before .before in
+    let r = at .loop .inv false in
+    (at .before .before .before .before .pre .0, at .before .inks .ensures, row-inside r (omega arith), record { in-byte = omega arith; within = source-inside r (omega arith) refl })
 
 along-requires : tie.Need-along-requires Inv-loop μ-loop
-along-requires c κs = let at = c .before .before .before .before .before in row-far _ _ _ _ _ _ _ _ (at .loop .inv .3) (at .loop .inv .7) (omega arith)
+along-requires c κs = row-far (c .before .before .before .before .before .loop .inv false) (omega arith)
 
 along-requires-2 : tie.Need-along-requires-2 Inv-loop μ-loop
-along-requires-2 c κs =
-    let at = c .before .before .before .before .before .before in
-    byte-far _ _ _ _ _ _ _ _ _ (at .loop .inv .4) (at .loop .inv .8) (at .loop .inv .6) (omega arith)
+along-requires-2 c κs = omega (arith, source-far (c .before .before .before .before .before .before .loop .inv false) (omega arith) refl)
 
 add-k : tie.Need-add-k Inv-loop μ-loop
 add-k c = omega arith
@@ -77,28 +47,17 @@ loop-less c = omega arith
 loop-again : tie.Need-loop-again Inv-loop μ-loop
 loop-again c =
     let done = c .before .before .before .before in
-    let at = done .before .before .before in
-    let s = at .before .before .before .before .args in (
-      omega arith,
-      at .loop .inv .1,
-      done .expand-narrow .kept .0 ∙ at .loop .inv .2,
-      at .loop .inv .3,
-      at .loop .inv .4,
-      at .loop .inv .5,
-      at .loop .inv .6,
-      next-row (s .up) (s .width) (s .at) _ _ _ (at .loop .inv .7) (c .before .along .ensures),
-      next-row (s .up) (s .width) (s .from / 8) _ _ _ (at .loop .inv .8) (c .along2 .ensures),
-      λ back.
-          row-more _ back (s .up) (s .width) (8 * s .width) _ (s .at) (s .from) (s .n) (at .loop .k) _ _ _ _ _ (at .loop .inv .9 back) (at .loop .inv .7)
-          (bit-place _ _ _ _ _ _ _ _ _ (at .loop .inv .4) (at .loop .inv .8) (at .loop .inv .6) (omega arith))
-          (stippled-from back _ _ _ _ _ _ _ (done .expand-narrow .ensures)),
-    )
+    let rowed = done .before .before .before .loop .inv in
+    λ back.
+    let r = rowed back in
+    rowed-turn r (omega arith) _ _ _ (done .expand-narrow .kept .0) (c .before .along .ensures)
+    (λ _. bits-next _ _ r refl (omega arith) (omega arith) _ (c .along2 .ensures)) (stippled-from back _ _ _ _ _ _ _ (done .expand-narrow .ensures))
 
 same-length : tie.Need-same-length Inv-loop μ-loop
-same-length c = c .before .loop .inv .2
+same-length c = c .before .loop .inv false .long
 
 returns : tie.Need-returns Inv-loop μ-loop
-returns c = let at = c .before in λ back. turn-end _ _ _ _ _ (at .loop .inv .0) (omega arith) (at .loop .inv .9 back)
+returns c = λ back. rowed-end (c .before .loop .inv back) (omega arith)
 
 pub narrow-rows-spec : {M : Type 1} → statement M
 narrow-rows-spec =

@@ -1,45 +1,35 @@
+-- The loop keeps `Rowed`: k rows are drawn and the rest are as before. Each turn is one row more, by `rowed-turn`.
 use borrow.Author.Needs.{needs}
-use mathlib.Core.Path.{_≡_, refl, _∙_}
-use mathlib.Core.Bool.{Bool}
-use Prim.Native.Nat.{_-_, _*_, _≤_}
+use mathlib.Core.Path.{refl}
+use mathlib.Core.Bool.{Bool, false}
+use Prim.Native.Nat.{_-_}
 use native.Mathlib.Omega.{arith}
-use lib.ListN.{length}
-use Rattle.geometry.specs.Blit.{away}
-use Rattle.lemmas.specs.Turns.{inTurn}
-use Rattle.lemmas.proofs.Turns.{turn-none, turn-end}
-use Rattle.blits.specs.Rows.{rowAt, RowsFit}
 use Rattle.blits.specs.declared.Paint.the-variants.{Copied}
 use Rattle.blits.proofs.Painted.{copied-from}
-use Rattle.blits.proofs.Steps.{first-row, next-row, row-inside, row-far, row-more}
+use Rattle.blits.proofs.Rowed.{Rowed, rowed-start, rowed-turn, rowed-end, row-inside, source-inside, row-far, source-far}
 use Rattle.blits.proofs.row_loops.copy_rows.Statement.{statement}
 use Rattle.blits.proofs.row_loops.copy_rows.Tie as tie
 
 abbrev Inv-loop : tie.InvT-loop
 Inv-loop up width stride buffer₀ at other from n rows mix to₀ source₀ k₀ buffer to source k =
-    (k ≤ rows)
-    × (length buffer ≡ length buffer₀)
-    × RowsFit up width at n rows (length buffer₀)
-    × RowsFit up stride from n rows (length other)
-    × (to ≡ away up at (width * k))
-    × (source ≡ away up from (stride * k))
-    × ((back : Bool) → buffer ≡ inTurn (rowAt (Copied mix) back up width stride other at from n) k buffer₀)
+    (back : Bool) → Rowed (Copied mix) back up width stride other at from n rows buffer₀ buffer to source k
 
 abbrev μ-loop : tie.MeasureT-loop
 μ-loop up width stride buffer₀ at other from n rows mix to₀ source₀ k₀ buffer to source k = rows - k
 
 loop-holds : tie.Need-loop-holds Inv-loop μ-loop
-loop-holds c = let start = c .before .before in
-    let s = start .args in
-    (omega arith, refl, start .pre .0, start .pre .1, first-row (s .up) (s .width) (s .at), first-row (s .up) (s .stride) (s .from), λ back. turn-none _ _)
+loop-holds c =
+    let start = c .before .before in
+    λ back. rowed-start _ back _ _ _ _ _ _ _ _ _ _ (start .pre .0) (λ _. start .pre .1) refl
 
 copy-row-requires : tie.Need-copy-row-requires Inv-loop μ-loop
 copy-row-requires c κs = search needs
 
 along-requires : tie.Need-along-requires Inv-loop μ-loop
-along-requires c κs = let at = c .before .before .before .before .before in row-far _ _ _ _ _ _ _ _ (at .loop .inv .2) (at .loop .inv .4) (omega arith)
+along-requires c κs = row-far (c .before .before .before .before .before .loop .inv false) (omega arith)
 
 along-requires-2 : tie.Need-along-requires-2 Inv-loop μ-loop
-along-requires-2 c κs = let at = c .before .before .before .before .before .before in row-far _ _ _ _ _ _ _ _ (at .loop .inv .3) (at .loop .inv .5) (omega arith)
+along-requires-2 c κs = source-far (c .before .before .before .before .before .before .loop .inv false) (omega arith) refl
 
 add-k : tie.Need-add-k Inv-loop μ-loop
 add-k c = omega arith
@@ -50,26 +40,17 @@ loop-less c = omega arith
 loop-again : tie.Need-loop-again Inv-loop μ-loop
 loop-again c =
     let done = c .before .before .before .before in
-    let at = done .before .before .before in
-    let s = at .before .before .before .args in (
-      omega arith,
-      done .copy-row .kept .0 ∙ at .loop .inv .1,
-      at .loop .inv .2,
-      at .loop .inv .3,
-      next-row (s .up) (s .width) (s .at) _ _ _ (at .loop .inv .4) (c .before .along .ensures),
-      next-row (s .up) (s .stride) (s .from) _ _ _ (at .loop .inv .5) (c .along2 .ensures),
-      λ back.
-          row-more _ back (s .up) (s .width) (s .stride) _ (s .at) (s .from) (s .n) (at .loop .k) _ _ _ _ _ (at .loop .inv .6 back) (at .loop .inv .4) (at .loop .inv .5)
-          (copied-from back _ _ _ _ _ _ _
-          (rw (at .loop .inv .1) (row-inside _ _ _ _ _ _ _ _ (at .loop .inv .2) (at .loop .inv .4) (omega arith)))
-          (row-inside _ _ _ _ _ _ _ _ (at .loop .inv .3) (at .loop .inv .5) (omega arith)) (done .copy-row .ensures)),
-    )
+    let rowed = done .before .before .before .loop .inv in
+    λ back.
+    let r = rowed back in
+    rowed-turn r (omega arith) _ _ _ (done .copy-row .kept .0) (c .before .along .ensures) (λ _ _. c .along2 .ensures)
+    (copied-from back _ _ _ _ _ _ _ (row-inside r (omega arith)) (source-inside r (omega arith) refl) (done .copy-row .ensures))
 
 same-length : tie.Need-same-length Inv-loop μ-loop
-same-length c = c .before .loop .inv .1
+same-length c = c .before .loop .inv false .long
 
 returns : tie.Need-returns Inv-loop μ-loop
-returns c = let at = c .before in λ back. turn-end _ _ _ _ _ (at .loop .inv .0) (omega arith) (at .loop .inv .6 back)
+returns c = λ back. rowed-end (c .before .loop .inv back) (omega arith)
 
 pub copy-rows-spec : {M : Type 1} → statement M
 copy-rows-spec =

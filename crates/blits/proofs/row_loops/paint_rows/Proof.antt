@@ -1,7 +1,7 @@
 use borrow.Author.Needs.{needs}
 use mathlib.Core.Path.{ap}
 use Rattle.blits.specs.Blits.{reads}
-use Rattle.blits.proofs.Steps.{rows-by-paint, stride-by-paint, fit-by-paint}
+use Rattle.blits.proofs.Painted.{rows-by-paint, stride-by-paint, fit-by-paint}
 use Rattle.blits.proofs.row_loops.paint_rows.Statement.{statement}
 use Rattle.blits.proofs.row_loops.paint_rows.Tie as tie
 
