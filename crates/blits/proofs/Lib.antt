@@ -6,6 +6,7 @@ pub mod Painted
 pub mod Rooms
 pub mod Words
 pub mod Blocks
+pub mod Expanded
 pub mod Rowed
 pub mod Loops
 pub mod Boxes

@@ -11,11 +11,11 @@ use lib.Dec.{leb, eqb}
 use lib.ListN.{length}
 use Rattle.lemmas.proofs.Booleans.{by-cases, and-left, and-right}
 use Rattle.geometry.specs.Blit.{widthOf, heightOf, blitCount}
-use Rattle.geometry.proofs.Blits.{factor-pos}
+use Rattle.geometry.proofs.Blits.{factor-pos, count-lt}
 use Rattle.lemmas.specs.Turns.{inTurn}
 use Rattle.blits.specs.Blits.{visited, windowInside, blitFits, blitted, Fitting, RowFits, WholeRows}
 use Rattle.blits.specs.declared.Blit.{Blit}
-use Rattle.lemmas.proofs.Turns.{turn-none, turn-join, turn-agree}
+use Rattle.lemmas.proofs.Turns.{turn-none, turn-end, turn-join, turn-agree}
 
 pub fitting-of : (b : Blit) (first n other own : ℕ) → blitFits b first n other own ≡ true → Fitting b first n other own
 fitting-of b first n other own h =
@@ -41,11 +41,11 @@ pub record Stands (w first k row column : ℕ) : Type 0 where
   pub here : first + k ≡ w * row + column
   pub short : column < w
 
-pub stands-first : (w first : ℕ) → 0 < w → Stands w first 0 (first / w) (first % w)
+stands-first : (w first : ℕ) → 0 < w → Stands w first 0 (first / w) (first % w)
 stands-first w first h =
     record { here = (let e : first + 0 ≡ first = omega arith in e) ∙ sym (div-add-mod first w); short = mod-lt first h }
 
-pub stands-next : (w first n k row column m : ℕ) → m ≡ min (n - k) (w - column) → k + m < n → Stands w first k row column
+stands-next : (w first n k row column m : ℕ) → m ≡ min (n - k) (w - column) → k + m < n → Stands w first k row column
     → Stands w first (k + m) (row + 1) 0
 stands-next w first n k row column m e h s =
     let rest : m ≡ w - column = whole n k w column m e h in
@@ -68,7 +68,7 @@ row-below w h k r c l e =
     let far = leb-false (suc r) h t in
     absurd (omega (arith, l, e, mul-le-mul-left {m = h} {n = r} w (omega (arith, far)))))
 
-pub row-fits : (b : Blit) (first n k row column m : ℕ) (other own : ℕ) → b .size < 4294967296 → Fitting b first n other own → k < n
+row-fits : (b : Blit) (first n k row column m : ℕ) (other own : ℕ) → b .size < 4294967296 → Fitting b first n other own → k < n
     → Stands (widthOf (b .size)) first k row column → m ≡ min (n - k) (widthOf (b .size) - column) → RowFits b row column m other own
 row-fits b first n k row column m other own small f h s e =
     record {
@@ -96,11 +96,55 @@ visits-more b other l k₁ k₂ first k start m e s g =
     ∙ ap (inTurn (λ i. visited b other (first + (k + i))) m) e
     ∙ turn-join (λ i. visited b other (first + i)) l k m
 
-pub all-rows : (b : Blit) (other l r : List ℕ) (first k n : ℕ) → r ≡ inTurn (λ i. visited b other (first + i)) k l → k ≤ n → n ≤ k
-    → r ≡ inTurn (λ i. visited b other (first + i)) n l
-all-rows b other l r first k n e p q =
-    let same : k ≡ n = omega arith in
-    e ∙ ap (λ k. inTurn (λ i. visited b other (first + i)) k l) same
+-- the loop over rows: k of n visits are done, which left t, and the next stands in its row and column
+pub record Visiting (b : Blit) (other : List ℕ) (first n : ℕ) (l t : List ℕ) (row column k : ℕ) : Type 0 where
+  pub few : k ≤ n
+  pub long : length t ≡ length l
+  pub fits : Fitting b first n (length other) (length l)
+  pub small : b .size < 4294967296
+  pub stands : k < n → Stands (widthOf (b .size)) first k row column
+  pub done : t ≡ inTurn (λ i. visited b other (first + i)) k l
+
+pub visiting-start : (b : Blit) (other : List ℕ) (first n : ℕ) (l : List ℕ) → 0 < n → b .size < 4294967296 → Fitting b first n (length other) (length l)
+    → Visiting b other first n l l (first / widthOf (b .size)) (first % widthOf (b .size)) 0
+visiting-start b other first n l some small f =
+    record {
+      few = omega arith;
+      long = refl;
+      fits = f;
+      small = small;
+      stands = λ _. stands-first (widthOf (b .size)) first (across-some b first n (length other) (length l) f some);
+      done = turn-none (λ i. visited b other (first + i)) l;
+    }
+
+module _ {b : Blit} {other : List ℕ} {first n : ℕ} {l t : List ℕ} {row column k : ℕ} (v : Visiting b other first n l t row column k) where
+  -- the last visit is not too far
+  pub visiting-far : first + n < 18446744073709551616
+  visiting-far = omega (arith, v .fits .visits, count-lt (b .size) (v .small))
+
+  pub visiting-end : n ≤ k → t ≡ inTurn (λ i. visited b other (first + i)) n l
+  visiting-end h = turn-end (λ i. visited b other (first + i)) l k n t (v .few) h (v .done)
+
+  -- the m visits up to the row's end, or up to the last visit
+  module _ (h : k < n) (m : ℕ) (e : m ≡ min (n - k) (widthOf (b .size) - column)) where
+    pub visiting-row : RowFits b row column m (length other) (length t)
+    visiting-row =
+        rw (v .long) (row-fits b first n k row column m (length other) (length l) (v .small) (v .fits) h (v .stands h) e)
+
+    pub visiting-more : (0 < m) × (k + m ≤ n)
+    visiting-more = (omega (arith, v .stands h .short), omega arith)
+
+    pub visiting-turn : (u : List ℕ) → length u ≡ length t → u ≡ inTurn (λ i. visited b other (widthOf (b .size) * row + column + i)) m t
+        → Visiting b other first n l u (row + 1) 0 (k + m)
+    visiting-turn u s g =
+        record {
+          few = visiting-more .1;
+          long = s ∙ v .long;
+          fits = v .fits;
+          small = v .small;
+          stands = λ q. stands-next (widthOf (b .size)) first n k row column m e q (v .stands h);
+          done = visits-more b other l t u first k (widthOf (b .size) * row + column) m (v .done) (v .stands h .here) g;
+        }
 
 -- whole rows, and the rest
 module _ (b : Blit) (first n r : ℕ) (q : WholeRows (b .size) first n r) where

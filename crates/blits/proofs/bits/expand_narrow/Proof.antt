@@ -3,7 +3,7 @@ use mathlib.Core.Path.{refl, sym}
 use Prim.Native.Nat.{_+_, _*_}
 use native.Mathlib.Omega.{arith}
 use Rattle.lemmas.proofs.Sweeps.{sweep-start}
-use Rattle.blits.proofs.Blocks.{expanded-more, eight-of, only-eight}
+use Rattle.blits.proofs.Expanded.{expanded-more, eight-of, only-eight}
 use Rattle.blits.proofs.bits.expand_narrow.Statement.{statement}
 use Rattle.blits.proofs.bits.expand_narrow.Tie as tie
 

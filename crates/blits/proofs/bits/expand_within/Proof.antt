@@ -1,5 +1,5 @@
 use borrow.Author.Needs.{needs}
-use Rattle.blits.proofs.Blocks.{own-apart}
+use Rattle.blits.proofs.Expanded.{own-apart}
 use Rattle.blits.proofs.bits.expand_within.Statement.{statement}
 use Rattle.blits.proofs.bits.expand_within.Tie as tie
 
