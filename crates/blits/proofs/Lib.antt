@@ -10,3 +10,4 @@ pub mod Expanded
 pub mod Rowed
 pub mod Loops
 pub mod Boxes
+pub mod RowBoxes

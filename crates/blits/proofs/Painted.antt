@@ -6,7 +6,6 @@ use mathlib.Core.List.{List}
 use Prim.Native.Nat.{ℕ, _+_, _≤_}
 use native.Mathlib.Omega.{arith}
 use lib.ListN.{length, getD}
-use Rattle.lemmas.specs.Turns.{inTurn}
 use Rattle.raster.specs.declared.Pen.{Pen}
 use Rattle.rows.specs.Rows.{mixed, filledRow, copiedRow, movedRow, movedBackRow}
 use Rattle.rows.specs.declared.Mix.{Mix}
@@ -16,7 +15,7 @@ use Rattle.rows.proofs.Fitting.{filled-row, copied-row, moved-row, moved-back-r
 use Rattle.stipples.specs.Stipples.{bitAt, stippled}
 use Rattle.stipples.specs.declared.Stipple.{Stipple}
 use Rattle.blits.specs.Blits.{painted, reads, sourcePixels}
-use Rattle.blits.specs.Rows.{rowOf, rowAt, RowsFit}
+use Rattle.blits.specs.Rows.{rowOf, RowsFit, PaintFits}
 use Rattle.blits.specs.Bits.{expanded, expandedWithin, expandedBack}
 use Rattle.blits.specs.declared.Paint.{Paint}
 use Rattle.blits.specs.declared.Paint.the-variants.{Solid, Copied, Moved, Stippled, StippledWithin}
@@ -78,15 +77,13 @@ same-source-row (Moved mix) back other at x y n l h = ap (λ x. rowOf (Moved mix
 same-source-row (Stippled s) back other at x y n l h = ap (λ x. rowOf (Stippled s) back other at x n l) (h refl)
 same-source-row (StippledWithin s) back other at x y n l h = ap (λ x. rowOf (StippledWithin s) back other at x n l) (h refl)
 
--- of the paint that it is
-pub rows-by-paint : (p q : Paint) (back up : Bool) (width stride : ℕ) (other : List ℕ) (at from n rows : ℕ) (l r : List ℕ) → p ≡ q
-    → r ≡ inTurn (rowAt q back up width stride other at from n) rows l → r ≡ inTurn (rowAt p back up width stride other at from n) rows l
-rows-by-paint p q back up width stride other at from n rows l r e h =
-    h ∙ ap (λ p. inTurn (rowAt p back up width stride other at from n) rows l) (sym e)
+-- what the rows of a paint need, by the paint that it is
+module _ {p q : Paint} {up : Bool} {width stride at from n rows other own : ℕ} (is : p ≡ q) (f : PaintFits p up width stride at from n rows other own) where
+  pub stride-is : stride ≡ sourcePixels q width
+  stride-is = f .apart ∙ ap (λ p. sourcePixels p width) is
 
-pub stride-by-paint : (p q : Paint) (width stride : ℕ) → p ≡ q → stride ≡ sourcePixels p width → stride ≡ sourcePixels q width
-stride-by-paint p q width stride e h = h ∙ ap (λ p. sourcePixels p width) e
+  pub source-own : reads q ≡ true → RowsFit up stride from n rows (sourcePixels q own)
+  source-own r = subst (λ p. RowsFit up stride from n rows (sourcePixels p own)) is (f .source (ap reads is ∙ r))
 
-pub fit-by-paint : (p q : Paint) (up : Bool) (stride from n rows own : ℕ) → p ≡ q → RowsFit up stride from n rows (sourcePixels p own)
-    → RowsFit up stride from n rows (sourcePixels q own)
-fit-by-paint p q up stride from n rows own e f = subst (λ p. RowsFit up stride from n rows (sourcePixels p own)) e f
+  pub source-other : reads q ≡ true → RowsFit up stride from n rows (sourcePixels q other)
+  source-other r = rw (f .same) (source-own r)

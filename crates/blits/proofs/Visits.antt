@@ -17,7 +17,7 @@ use Rattle.blits.specs.Blits.{painted, reads, sourceWidth, targetAt, sou
 use Rattle.blits.specs.Ranges.{rangeOf}
 use Rattle.blits.specs.declared.Blit.{Blit}
 
--- what is let through
+-- the j of a range, by where their pixels lie
 pub range-in : (back : Bool) (c lo hi j : ℕ) → 65536 ≤ c → j < 65536 → rangeOf back c lo hi .from ≤ j → j < rangeOf back c lo hi .past
     → (lo ≤ away back c j) × (away back c j < hi)
 unfolding rangeOf

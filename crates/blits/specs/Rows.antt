@@ -30,6 +30,13 @@ pub record RowsFit (up : Bool) (width at n rows own : ℕ) : Type 0 where
   pub above : up ≡ true → (k : ℕ) → k < rows → width * k ≤ at
   pub far : at + width * rows < 18446744073709551616
 
+-- What rows of a paint need of the buffer that is drawn on and of the other.
+pub record PaintFits (paint : Paint) (up : Bool) (width stride at from n rows other own : ℕ) : Type 0 where
+  pub same : other ≡ own
+  pub apart : stride ≡ sourcePixels paint width
+  pub target : RowsFit up width at n rows own
+  pub source : reads paint ≡ true → RowsFit up stride from n rows (sourcePixels paint own)
+
 -- The columns `across` of the rows `down`, row after row.
 unfoldable pub boxOf : Paint → ℕ → ℕ → ℕ → ℕ → Range → Range → List ℕ → List ℕ → List ℕ
 boxOf paint width to from direction across down other l =

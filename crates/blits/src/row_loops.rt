@@ -1,14 +1,13 @@
 // Rows of pixels, each as far from the one before it, down or up: a loop for each kind of paint, those by bits in bit_loops.rt.
 ghost use mathlib.Core.Path.{_≡_};
-ghost use mathlib.Core.Bool.{Bool, true};
+ghost use mathlib.Core.Bool.{Bool};
 ghost use mathlib.Core.List.{List};
 ghost use Prim.Native.Nat.{ℕ, _+_, _≤_};
 ghost use lib.ListN.{length};
 ghost use Rattle.lemmas.specs.Turns.{inTurn};
 ghost use Rattle.rows.specs.Rows.{filledRow};
 ghost use Rattle.blits.specs.declared.Paint.the-variants.{Solid, Copied, Moved, Stippled, StippledWithin};
-ghost use Rattle.blits.specs.Blits.{reads, sourcePixels};
-ghost use Rattle.blits.specs.Rows.{rowOf, rowAt, RowsFit};
+ghost use Rattle.blits.specs.Rows.{rowOf, rowAt, RowsFit, PaintFits};
 use crate::Paint;
 use crate::bit_loops::stipple_rows;
 use crate::bit_loops::stipple_within;
@@ -125,7 +124,7 @@ pub(crate) fn paint_rows(
     n: usize,
     rows: usize,
 )
-    requires { ⌜ RowsFit up width at n rows (length (now buffer)) × (length (now other) ≡ length (now buffer)) × (reads paint ≡ true → RowsFit up stride from n rows (sourcePixels paint (length (now buffer)))) × (stride ≡ sourcePixels paint width) ⌝ }
+    requires { ⌜ PaintFits paint up width stride at from n rows (length (now other)) (length (now buffer)) ⌝ }
     ensures { λ _. ⌜ now (buffer .exit) ≡ inTurn (rowAt paint back up width stride (now (other .entry)) at from n) rows (now (buffer .entry)) ⌝ }
 {
     match paint {

@@ -1,8 +1,6 @@
 use borrow.Author.Needs.{needs}
-use mathlib.Core.Path.{ap, _∙_}
 use Prim.Native.Nat.{_<_}
-use Rattle.blits.specs.Ranges.{partOf}
-use Rattle.blits.proofs.Boxes.{row-box-fits, row-box-visits}
+use Rattle.blits.proofs.RowBoxes.{row-box-fits, row-box-visits}
 use Rattle.blits.proofs.draw_row.Statement.{statement}
 use Rattle.blits.proofs.draw_row.Tie as tie
 
@@ -20,9 +18,7 @@ paint-box-requires c κs =
     let rows = c .before in
     let columns = rows .before in
     let start = columns .before .before .before in
-    let s = start .args in
-    row-box-fits (s .b) (s .other .now) (s .row) (s .column) (s .m) _ (start .pre .0) _ _ (columns .part .ensures ∙ ap (λ visible. partOf (visible .columns) (s .column) (s .m)) (start .pre .1)) (rows .part2 .ensures ∙ ap (λ visible. partOf (visible .rows) (s .row) 1) (start .pre .1))
-    (wide start)
+    row-box-fits (start .args .other .now) (start .pre .0) (start .pre .1) (columns .part .ensures) (rows .part2 .ensures) (wide start)
 
 same-length : tie.Need-same-length
 same-length c = search needs
@@ -33,9 +29,7 @@ returns c =
     let rows = done .before .before in
     let columns = rows .before in
     let start = columns .before .before .before in
-    let s = start .args in
-    row-box-visits (s .b) (s .other .now) (s .row) (s .column) (s .m) _ (start .pre .0) _ _ (columns .part .ensures ∙ ap (λ visible. partOf (visible .columns) (s .column) (s .m)) (start .pre .1)) (rows .part2 .ensures ∙ ap (λ visible. partOf (visible .rows) (s .row) 1) (start .pre .1))
-    _ _ (done .paint-box .ensures)
+    row-box-visits (start .args .other .now) (start .pre .0) (start .pre .1) (columns .part .ensures) (rows .part2 .ensures) _ _ (done .paint-box .ensures)
 
 pub draw-row-spec : {M : Type 1} → statement M
 draw-row-spec =

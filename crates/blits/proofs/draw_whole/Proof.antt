@@ -1,9 +1,6 @@
 use borrow.Author.Needs.{needs}
-use mathlib.Core.Path.{ap, _∙_}
 use Prim.Native.Nat.{_<_}
-use Rattle.geometry.specs.Blit.{widthOf}
-use Rattle.blits.specs.Ranges.{partOf}
-use Rattle.blits.proofs.Boxes.{whole-box-fits, whole-box-visits}
+use Rattle.blits.proofs.RowBoxes.{whole-box-fits, whole-box-visits}
 use Rattle.blits.proofs.draw_whole.Statement.{statement}
 use Rattle.blits.proofs.draw_whole.Tie as tie
 
@@ -28,8 +25,7 @@ paint-box-requires c κs =
     let columns = rows .before in
     let start = columns .before .before .before .before in
     let s = start .args in
-    whole-box-fits (s .b) (s .other .now) (s .rows) _ (start .pre .0) (size-small start) (start .pre .1) _ _ (columns .part .ensures ∙ ap (λ visible. partOf (visible .columns) 0 (widthOf (s .b .size))) (start .pre .2)) (rows .part2 .ensures ∙ ap (λ visible. partOf (visible .rows) 0 (s .rows)) (start .pre .2))
-    (wide start)
+    whole-box-fits (s .b) (s .other .now) (s .rows) _ (start .pre .0) (size-small start) (start .pre .1) (start .pre .2) (columns .part .ensures) (rows .part2 .ensures) (wide start)
 
 same-length : tie.Need-same-length
 same-length c = search needs
@@ -41,8 +37,7 @@ returns c =
     let columns = rows .before in
     let start = columns .before .before .before .before in
     let s = start .args in
-    whole-box-visits (s .b) (s .other .now) (s .rows) _ (start .pre .0) (size-small start) (start .pre .1) _ _ (columns .part .ensures ∙ ap (λ visible. partOf (visible .columns) 0 (widthOf (s .b .size))) (start .pre .2)) (rows .part2 .ensures ∙ ap (λ visible. partOf (visible .rows) 0 (s .rows)) (start .pre .2))
-    _ _ (done .paint-box .ensures)
+    whole-box-visits (s .b) (s .other .now) (s .rows) _ (start .pre .0) (size-small start) (start .pre .1) (start .pre .2) (columns .part .ensures) (rows .part2 .ensures) _ _ (done .paint-box .ensures)
 
 pub draw-whole-spec : {M : Type 1} → statement M
 draw-whole-spec =

@@ -46,12 +46,13 @@ paint-rows-requires c κs =
     let first = second .before in
     let stride = first .before in
     let f = stride .before .before .before .before .before .pre in
-    rw (second .place-at2 .ensures, first .place-at .ensures, stride .source-width .ensures) (
-      f .target (omega arith) (omega arith),
-      f .same,
-      λ t. f .source t (omega arith) (omega arith),
-      refl,
-    )
+    rw (second .place-at2 .ensures, first .place-at .ensures, stride .source-width .ensures)
+    (record {
+      same = f .same;
+      apart = refl;
+      target = f .target (omega arith) (omega arith);
+      source = λ t. f .source t (omega arith) (omega arith);
+    })
 
 same-length : tie.Need-same-length
 same-length c = search needs

@@ -1,7 +1,7 @@
+-- By the paint: each arm is the contract of its loop, with what that loop needs taken from `PaintFits`.
 use borrow.Author.Needs.{needs}
-use mathlib.Core.Path.{ap}
-use Rattle.blits.specs.Blits.{reads}
-use Rattle.blits.proofs.Painted.{rows-by-paint, stride-by-paint, fit-by-paint}
+use mathlib.Core.Path.{refl}
+use Rattle.blits.proofs.Painted.{stride-is, source-own, source-other}
 use Rattle.blits.proofs.row_loops.paint_rows.Statement.{statement}
 use Rattle.blits.proofs.row_loops.paint_rows.Tie as tie
 
@@ -17,10 +17,9 @@ enum-known-paint-2 c = search needs
 copy-rows-requires : tie.Need-copy-rows-requires
 copy-rows-requires c κs =
     let told = c .before .before in
-    let start = told .before .before .before .before in
-    let s = start .args in
+    let f = told .before .before .before .before .pre in
     let is = told .paint2 .given .1 in
-    (start .pre .0, rw (start .pre .1) (fit-by-paint _ _ (s .up) (s .stride) (s .from) (s .n) (s .rows) _ is (start .pre .2 (ap reads is))))
+    (f .target, source-other is f refl)
 
 enum-known-paint-3 : tie.Need-enum-known-paint-3
 enum-known-paint-3 c = search needs
@@ -28,10 +27,9 @@ enum-known-paint-3 c = search needs
 move-rows-requires : tie.Need-move-rows-requires
 move-rows-requires c κs =
     let told = c .before .before in
-    let start = told .before .before .before .before in
-    let s = start .args in
+    let f = told .before .before .before .before .pre in
     let is = told .paint3 .given .1 in
-    (start .pre .0, fit-by-paint _ _ (s .up) (s .stride) (s .from) (s .n) (s .rows) _ is (start .pre .2 (ap reads is)))
+    (f .target, source-own is f refl)
 
 enum-known-paint-4 : tie.Need-enum-known-paint-4
 enum-known-paint-4 c = search needs
@@ -39,10 +37,9 @@ enum-known-paint-4 c = search needs
 stipple-rows-requires : tie.Need-stipple-rows-requires
 stipple-rows-requires c κs =
     let told = c .before .before in
-    let start = told .before .before .before .before in
-    let s = start .args in
+    let f = told .before .before .before .before .pre in
     let is = told .paint4 .given .1 in
-    (start .pre .0, rw (start .pre .1, ← stride-by-paint _ _ (s .width) (s .stride) is (start .pre .3)) (fit-by-paint _ _ (s .up) (s .stride) (s .from) (s .n) (s .rows) _ is (start .pre .2 (ap reads is))))
+    (f .target, rw (← stride-is is f) (source-other is f refl))
 
 enum-known-paint-5 : tie.Need-enum-known-paint-5
 enum-known-paint-5 c = search needs
@@ -50,10 +47,9 @@ enum-known-paint-5 c = search needs
 stipple-within-requires : tie.Need-stipple-within-requires
 stipple-within-requires c κs =
     let told = c .before .before in
-    let start = told .before .before .before .before in
-    let s = start .args in
+    let f = told .before .before .before .before .pre in
     let is = told .paint5 .given .1 in
-    (start .pre .0, rw (← stride-by-paint _ _ (s .width) (s .stride) is (start .pre .3)) (fit-by-paint _ _ (s .up) (s .stride) (s .from) (s .n) (s .rows) _ is (start .pre .2 (ap reads is))))
+    (f .target, rw (← stride-is is f) (source-own is f refl))
 
 same-length : tie.Need-same-length
 same-length c = search needs
@@ -62,9 +58,10 @@ returns : tie.Need-returns
 returns c =
     let done = c .before .before in
     let told = done .before .before .before in
-    let s = told .before .before .before .before .args in
+    let start = told .before .before .before .before in
+    let s = start .args in
     let is = told .paint .given .1 in
-    rows-by-paint _ _ (s .back) (s .up) (s .width) (s .stride) (s .other .now) (s .at) (s .from) (s .n) (s .rows) _ _ is (done .fill-rows .ensures (s .back) (s .stride) (s .other .now) (s .from))
+    rw (is) (done .fill-rows .ensures (s .back) (s .stride) (s .other .now) (s .from))
 
 same-length-2 : tie.Need-same-length-2
 same-length-2 c = search needs
@@ -73,9 +70,10 @@ returns-2 : tie.Need-returns-2
 returns-2 c =
     let done = c .before .before in
     let told = done .before .before .before in
-    let s = told .before .before .before .before .args in
+    let start = told .before .before .before .before in
+    let s = start .args in
     let is = told .paint2 .given .1 in
-    rows-by-paint _ _ (s .back) (s .up) (s .width) (s .stride) (s .other .now) (s .at) (s .from) (s .n) (s .rows) _ _ is (done .copy-rows .ensures (s .back))
+    rw (is) (done .copy-rows .ensures (s .back))
 
 same-length-3 : tie.Need-same-length-3
 same-length-3 c = search needs
@@ -84,9 +82,10 @@ returns-3 : tie.Need-returns-3
 returns-3 c =
     let done = c .before .before in
     let told = done .before .before .before in
-    let s = told .before .before .before .before .args in
+    let start = told .before .before .before .before in
+    let s = start .args in
     let is = told .paint3 .given .1 in
-    rows-by-paint _ _ (s .back) (s .up) (s .width) (s .stride) (s .other .now) (s .at) (s .from) (s .n) (s .rows) _ _ is (done .move-rows .ensures (s .other .now))
+    rw (is) (done .move-rows .ensures (s .other .now))
 
 same-length-4 : tie.Need-same-length-4
 same-length-4 c = search needs
@@ -98,7 +97,7 @@ returns-4 c =
     let start = told .before .before .before .before in
     let s = start .args in
     let is = told .paint4 .given .1 in
-    rows-by-paint _ _ (s .back) (s .up) (s .width) (s .stride) (s .other .now) (s .at) (s .from) (s .n) (s .rows) _ _ is (rw (stride-by-paint _ _ (s .width) (s .stride) is (start .pre .3)) (done .stipple-rows .ensures (s .back)))
+    rw (is, stride-is is (start .pre)) (done .stipple-rows .ensures (s .back))
 
 same-length-5 : tie.Need-same-length-5
 same-length-5 c = search needs
@@ -110,7 +109,7 @@ returns-5 c =
     let start = told .before .before .before .before in
     let s = start .args in
     let is = told .paint5 .given .1 in
-    rows-by-paint _ _ (s .back) (s .up) (s .width) (s .stride) (s .other .now) (s .at) (s .from) (s .n) (s .rows) _ _ is (rw (stride-by-paint _ _ (s .width) (s .stride) is (start .pre .3)) (done .stipple-within .ensures (s .other .now)))
+    rw (is, stride-is is (start .pre)) (done .stipple-within .ensures (s .other .now))
 
 pub paint-rows-spec : {M : Type 1} → statement M
 paint-rows-spec =
