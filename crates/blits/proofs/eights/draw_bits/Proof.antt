@@ -1,21 +1,20 @@
+-- The loop keeps `Swept`: k visits are done. Each turn is one visit more, by `sweep-more`.
 use borrow.Author.Needs.{needs}
 use native.Mathlib.Omega.{arith}
-use mathlib.Core.Path.{_≡_, refl}
-use Prim.Native.Nat.{_-_, _≤_}
-use lib.ListN.{length, length-set}
-use Rattle.lemmas.proofs.Sweeps.{sweep-start, sweep-more, sweep-end}
+use Prim.Native.Nat.{_-_}
+use Rattle.lemmas.proofs.Sweeps.{sweep-start, sweep-more, Swept, swept-start, swept-set, swept-end}
 use Rattle.blits.specs.Bits.{byByte}
 use Rattle.blits.proofs.eights.draw_bits.Statement.{statement}
 use Rattle.blits.proofs.eights.draw_bits.Tie as tie
 
 abbrev Inv-loop : tie.InvT-loop
-Inv-loop buffer₀ at bits m s k₀ buffer k = (k ≤ m) × (length buffer ≡ length buffer₀) × (buffer ≡ byByte s k buffer₀ at bits)
+Inv-loop buffer₀ at bits m s k₀ buffer k = Swept (λ k. byByte s k buffer₀ at bits) m buffer₀ buffer k
 
 abbrev μ-loop : tie.MeasureT-loop
 μ-loop buffer₀ at bits m s k₀ buffer k = m - k
 
 loop-holds : tie.Need-loop-holds Inv-loop μ-loop
-loop-holds c = (omega arith, refl, sweep-start _ _ _)
+loop-holds c = swept-start _ _ _ (sweep-start _ _ _)
 
 sub-draw : tie.Need-sub-draw Inv-loop μ-loop
 sub-draw c = omega arith
@@ -46,14 +45,14 @@ loop-less c = omega arith
 
 loop-again : tie.Need-loop-again Inv-loop μ-loop
 loop-again c =
-    let o = c .before .before .before .loop in
-    (omega arith, simp length-set (o .inv .1), sweep-more _ _ _ _ _ _ (o .inv .2) (c .draw .ensures))
+    let x = c .before .before .before .loop .inv in
+    swept-set x _ _ (omega arith) (sweep-more _ _ _ _ _ _ (x .done) (c .draw .ensures))
 
 same-length : tie.Need-same-length Inv-loop μ-loop
 same-length c = omega arith
 
 returns : tie.Need-returns Inv-loop μ-loop
-returns c = sweep-end _ _ _ _ _ _ (c .before .loop .inv .0) (c .loop-test .left) (c .before .loop .inv .2)
+returns c = swept-end (c .before .loop .inv) (c .loop-test .left)
 
 pub draw-bits-spec : {M : Type 1} → statement M
 draw-bits-spec =

@@ -1,10 +1,10 @@
+-- The loop keeps `Swept`: k bytes are stored; `rest` is the word without them. Each turn is one byte more, by `sweep-more`.
 use borrow.Author.Needs.{needs}
 use native.Mathlib.Omega.{arith}
-use mathlib.Core.Path.{_≡_, refl, ap, _∙_}
-use Prim.Native.Nat.{_+_, _-_, _*_, _/_, _%_, _^_, _≤_}
-use lib.ListN.{length, length-set}
+use mathlib.Core.Path.{_≡_, ap, _∙_}
+use Prim.Native.Nat.{_+_, _-_, _*_, _/_, _%_, _^_}
 use Rattle.lemmas.specs.Sweeps.{sweep}
-use Rattle.lemmas.proofs.Sweeps.{sweep-start, sweep-more, sweep-end}
+use Rattle.lemmas.proofs.Sweeps.{sweep-start, sweep-more, Swept, swept-start, swept-set, swept-end}
 use Rattle.stipples.specs.Words.{byteIn}
 use Rattle.blits.proofs.Words.{first-byte, next-byte}
 use Rattle.blits.proofs.eights.put_word.Statement.{statement}
@@ -12,16 +12,13 @@ use Rattle.blits.proofs.eights.put_word.Tie as tie
 
 abbrev Inv-loop : tie.InvT-loop
 Inv-loop buffer₀ at word rest₀ k₀ buffer rest k =
-    (k ≤ 8)
-    × (length buffer ≡ length buffer₀)
-    × (rest ≡ word / 2 ^ (8 * k))
-    × (buffer ≡ sweep (λ k. at + k) (λ k m. byteIn k word) k buffer₀)
+    (rest ≡ word / 2 ^ (8 * k)) × Swept (λ k. sweep (λ k. at + k) (λ k m. byteIn k word) k buffer₀) 8 buffer₀ buffer k
 
 abbrev μ-loop : tie.MeasureT-loop
 μ-loop buffer₀ at word rest₀ k₀ buffer rest k = 8 - k
 
 loop-holds : tie.Need-loop-holds Inv-loop μ-loop
-loop-holds c = (omega arith, refl, first-byte (c .args .word), sweep-start _ _ _)
+loop-holds c = (first-byte (c .args .word), swept-start _ _ _ (sweep-start _ _ _))
 
 cast-buffer : tie.Need-cast-buffer Inv-loop μ-loop
 cast-buffer c = search needs
@@ -40,18 +37,16 @@ loop-less c = omega arith
 
 loop-again : tie.Need-loop-again Inv-loop μ-loop
 loop-again c =
-    let o = c .before .loop in (
-      omega arith,
-      simp length-set (o .inv .1),
-      ap (λ x. x / 256) (o .inv .2) ∙ next-byte (c .before .before .args .word) (o .k),
-      sweep-more _ _ _ _ _ _ (o .inv .3) (ap (λ x. x % 256) (o .inv .2)),
-    )
+    let o = c .before .loop in
+    let e = o .inv .0 in
+    let x = o .inv .1 in
+    (ap (λ x. x / 256) e ∙ next-byte (c .before .before .args .word) (o .k), swept-set x _ _ (omega arith) (sweep-more _ _ _ _ _ _ (x .done) (ap (λ x. x % 256) e)))
 
 same-length : tie.Need-same-length Inv-loop μ-loop
 same-length c = omega arith
 
 returns : tie.Need-returns Inv-loop μ-loop
-returns c = sweep-end _ _ _ _ _ _ (c .before .loop .inv .0) (c .loop-test .left) (c .before .loop .inv .3)
+returns c = swept-end (c .before .loop .inv .1) (c .loop-test .left)
 
 pub put-word-spec : {M : Type 1} → statement M
 put-word-spec =
