@@ -1,3 +1,4 @@
+-- The area does not wrap (`product-fits`); the two tests of visits are one of `first + n` (`fits-in`).
 use borrow.Author.Needs.{needs}
 use native.Mathlib.Omega.{arith}
 use Rattle.geometry.proofs.Clips.{product-fits}

@@ -1,3 +1,4 @@
+-- By the tests: where one fails nothing is drawn (`blit-out`); else the visits are, all at once (`blit-in`).
 use borrow.Author.Needs.{needs}
 use mathlib.Core.Path.{_≡_, sym, _∙_}
 use mathlib.Core.Bool.{true}

@@ -1,3 +1,4 @@
+-- m visits of a row are a box that is one row high (`row-box-visits`), and it fits (`row-box-fits`).
 use borrow.Author.Needs.{needs}
 use Prim.Native.Nat.{_<_}
 use Rattle.blits.proofs.RowBoxes.{row-box-fits, row-box-visits}

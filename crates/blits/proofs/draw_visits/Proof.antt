@@ -1,3 +1,4 @@
+-- The whole rows (`whole-first`), and then the rest, if there is one, row by row (`and-rest`).
 use borrow.Author.Needs.{needs}
 use mathlib.Core.Path.{ap, sym, _∙_}
 use Prim.Native.Nat.{_+_, _<_}

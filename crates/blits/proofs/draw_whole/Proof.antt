@@ -1,3 +1,4 @@
+-- Whole rows from the first on are a box (`whole-box-visits`), and it fits (`whole-box-fits`).
 use borrow.Author.Needs.{needs}
 use Prim.Native.Nat.{_<_}
 use Rattle.blits.proofs.RowBoxes.{whole-box-fits, whole-box-visits}

@@ -1,3 +1,4 @@
+-- An empty box draws nothing (`no-columns`, `no-rows`); another is the rows from its corners' places (`box-painted`).
 use borrow.Author.Needs.{needs}
 use mathlib.Core.Path.{refl}
 use Prim.Native.Nat.{_<_}

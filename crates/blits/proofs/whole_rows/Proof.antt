@@ -1,3 +1,4 @@
+-- n / width whole rows are not more than n visits (`div-fits`).
 use borrow.Author.Needs.{needs}
 use Rattle.blits.proofs.Bounds.{div-fits}
 use Rattle.blits.proofs.whole_rows.Statement.{statement}

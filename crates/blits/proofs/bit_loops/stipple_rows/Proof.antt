@@ -1,3 +1,4 @@
+-- By the width: 8 and 16 pixels by `narrow_rows`, the others by `wide_rows`, whose contract is the same.
 use borrow.Author.Needs.{needs}
 use mathlib.Core.Logic.{inl, inr}
 use Rattle.blits.proofs.bit_loops.stipple_rows.Statement.{statement}

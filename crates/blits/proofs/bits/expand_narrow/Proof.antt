@@ -1,3 +1,4 @@
+-- Eight pixels, and for 16 eight more, each time by `expanded-more`.
 use borrow.Author.Needs.{needs}
 use mathlib.Core.Path.{refl, sym}
 use Prim.Native.Nat.{_+_, _*_}

@@ -1,3 +1,4 @@
+-- Where no pixel is a byte of bits, bits read before are bits read at their visits (`own-apart`); else pixel by pixel.
 use borrow.Author.Needs.{needs}
 use Rattle.blits.proofs.Expanded.{own-apart}
 use Rattle.blits.proofs.bits.expand_within.Statement.{statement}

@@ -1,3 +1,4 @@
+-- Each test that holds is one of the two ways to lie apart.
 use borrow.Author.Needs.{needs}
 use mathlib.Core.Logic.{inl, inr}
 use Prim.Native.Nat.{_+_, _-_, _/_}

@@ -1,3 +1,4 @@
+-- Bits that begin a byte (`bit-first`), bits of one byte (`here-bit`), and bits of two (`either-bit`).
 use borrow.Author.Needs.{needs}
 use native.Mathlib.Omega.{arith}
 use Rattle.blits.proofs.Words.{bit-first, here-bit, either-bit}

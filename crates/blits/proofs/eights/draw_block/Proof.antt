@@ -1,3 +1,4 @@
+-- Where no byte is kept the old ones are no matter (`plain-drawn`); else `draw_eight`.
 use borrow.Author.Needs.{needs}
 use native.Mathlib.Omega.{arith}
 use Rattle.stipples.specs.Words.{Bytes}

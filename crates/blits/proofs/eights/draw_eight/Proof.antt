@@ -1,3 +1,4 @@
+-- Byte k of the new word is what its bit draws (`inks-byte`), so that one store is eight visits (`word-drawn`).
 use borrow.Author.Needs.{needs}
 use native.Mathlib.Omega.{arith}
 use lib.Dec.{lit≤}

@@ -1,3 +1,4 @@
+-- The first m bytes are drawn and the others stored as they stood (`some-drawn`); pixel by pixel at the buffer's end.
 use borrow.Author.Needs.{needs}
 use Prim.Native.Nat.{_*_}
 use lib.Pow.{pow-pos}

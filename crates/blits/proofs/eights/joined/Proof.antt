@@ -1,3 +1,4 @@
+-- A bit of the new byte is one of the high byte or of the low byte, by `joined-bit`.
 use borrow.Author.Needs.{needs}
 use Rattle.blits.proofs.Words.{joined-bit}
 use Rattle.blits.proofs.eights.joined.Statement.{statement}

@@ -1,3 +1,4 @@
+-- Byte k of the word is the byte at `at` + k, by `bytes-of`, since every byte is below 256.
 use borrow.Author.Needs.{needs}
 use native.Mathlib.Omega.{arith}
 use mathlib.Core.Path.{refl}

@@ -1,3 +1,4 @@
+-- By the direction.
 use borrow.Author.Needs.{needs}
 use Rattle.blits.proofs.places.left_edge.Statement.{statement}
 use Rattle.blits.proofs.places.left_edge.Tie as tie

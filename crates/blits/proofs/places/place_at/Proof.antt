@@ -1,3 +1,4 @@
+-- The equations of its parts, one after the other; a corner's coordinates are within 17 bits (`x-below`, `y-below`).
 use borrow.Author.Needs.{needs}
 use native.Mathlib.Omega.{arith}
 use Rattle.geometry.specs.Coordinates.{pointOf}

@@ -1,3 +1,4 @@
+-- The product and the sum do not wrap: a coordinate is below 2^18 and a width below 2^35 (`product-small`).
 use borrow.Author.Needs.{needs}
 use Prim.Native.Nat.{_-_}
 use native.Mathlib.Omega.{arith}

@@ -1,3 +1,4 @@
+-- By the paint.
 use borrow.Author.Needs.{needs}
 use Rattle.blits.proofs.places.source_width.Statement.{statement}
 use Rattle.blits.proofs.places.source_width.Tie as tie

@@ -1,3 +1,4 @@
+-- By the direction: both ends by `saturating_sub`.
 use borrow.Author.Needs.{needs}
 use Rattle.blits.specs.Ranges.{rangeOf}
 use Rattle.blits.proofs.ranges.range_of.Statement.{statement}

@@ -1,3 +1,4 @@
+-- `visible_range` on each axis; corners and sizes are small enough for it (`x-below`, `y-below`, `source-small`).
 use borrow.Author.Needs.{needs}
 use Prim.Native.Nat.{_<_}
 use native.Mathlib.Omega.{arith}

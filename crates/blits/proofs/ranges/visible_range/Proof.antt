@@ -1,3 +1,4 @@
+-- The equations of both ranges and of what they share, by whether pixels are read.
 use borrow.Author.Needs.{needs}
 use Rattle.blits.specs.Ranges.{visibleRange}
 use Rattle.blits.proofs.ranges.visible_range.Statement.{statement}

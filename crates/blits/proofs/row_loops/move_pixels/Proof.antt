@@ -1,3 +1,4 @@
+-- By the direction: the row that `rows` draws, to the right or back, is a row of visits (`moved-right`, `moved-left`).
 use borrow.Author.Needs.{needs}
 use native.Mathlib.Omega.{arith}
 use Rattle.blits.proofs.Painted.{moved-right, moved-left}
