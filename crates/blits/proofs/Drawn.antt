@@ -14,7 +14,7 @@ use Rattle.lemmas.specs.Sweeps.{sweep}
 use Rattle.lemmas.proofs.Sweeps.{sweep-agree, turn-sweep}
 use Rattle.lemmas.specs.Turns.{inTurn}
 use Rattle.geometry.specs.Clip.{placeIn}
-use Rattle.blits.specs.Blits.{painted, reads, sourceWidth, targetAt, sourceAt, drawnAt, visited}
+use Rattle.blits.specs.Blits.{painted, reads, sourceWidth, targetAt, sourceAt, visibleAt, visited}
 use Rattle.blits.specs.Ranges.{visibleColumns}
 use Rattle.blits.specs.Places.{targetRow, sourceRow, leftEdge}
 use Rattle.blits.specs.Rows.{rowOf}
@@ -23,7 +23,7 @@ use Rattle.blits.specs.declared.Paint.{Paint}
 use Rattle.lemmas.proofs.Turns.{turn-idle}
 use Rattle.blits.proofs.Painted.{same-source}
 use Rattle.blits.proofs.Visits.{x-from, visit-drawn, visit-hidden}
-use Rattle.blits.proofs.Rowwise.{ColumnIn, RowIn, column-of, column-by, target-is, source-is, visible-drawn, drawn-visible}
+use Rattle.blits.proofs.Rowwise.{ColumnIn, RowIn, column-of, column-by, target-is, source-is, in-visible, visible-in}
 
 -- a sweep over the places of a row, in either direction
 sweep-row : (paint : Paint) (back : Bool) (other : List ℕ) (at from n : ℕ) (place source : ℕ → ℕ)
@@ -100,24 +100,24 @@ module _ (b : Blit) (other : List ℕ) (r c m : ℕ) (fits : c + m ≤ widthOf (
   at-index : (i : ℕ) → widthOf (b .size) * r + c + i ≡ widthOf (b .size) * r + (c + i)
   at-index i = add-assoc (widthOf (b .size) * r) c i
 
-  abbrev VisibleAt : ℕ → Type 0
-  VisibleAt i = RowIn b r × (visibleColumns b .from ≤ c + i) × (c + i < visibleColumns b .past)
+  abbrev InRanges : ℕ → Type 0
+  InRanges i = RowIn b r × (visibleColumns b .from ≤ c + i) × (c + i < visibleColumns b .past)
 
-  visible-of : (i : ℕ) → i < m → drawnAt b (widthOf (b .size) * r + c + i) ≡ true → VisibleAt i
-  visible-of i q d =
-      let visible = drawn-visible b r (c + i) (omega (arith, q, fits)) size-small (subst (λ k. drawnAt b k ≡ true) (at-index i) d) in
+  ranges-of : (i : ℕ) → i < m → visibleAt b (widthOf (b .size) * r + c + i) ≡ true → InRanges i
+  ranges-of i q d =
+      let visible = visible-in b r (c + i) (omega (arith, q, fits)) size-small (subst (λ k. visibleAt b k ≡ true) (at-index i) d) in
       let columns = column-by b (c + i) (omega (arith, q, fits, size-small)) (visible .1) in
       (visible .0, columns .0, columns .1)
 
-  visible-by : (i : ℕ) → i < m → VisibleAt i → drawnAt b (widthOf (b .size) * r + c + i) ≡ true
-  visible-by i q s =
-      subst (λ k. drawnAt b k ≡ true) (sym (at-index i))
-      (visible-drawn b r (c + i) (omega (arith, q, fits)) size-small (s .0) (column-of b (c + i) (omega (arith, q, fits, size-small)) (s .1) (s .2)))
+  ranges-by : (i : ℕ) → i < m → InRanges i → visibleAt b (widthOf (b .size) * r + c + i) ≡ true
+  ranges-by i q s =
+      subst (λ k. visibleAt b k ≡ true) (sym (at-index i))
+      (in-visible b r (c + i) (omega (arith, q, fits)) size-small (s .0) (column-of b (c + i) (omega (arith, q, fits, size-small)) (s .1) (s .2)))
 
   -- a row of which nothing is visible
-  pub row-hidden : (l : List ℕ) → ((i : ℕ) → i < m → VisibleAt i → ⊥) → l ≡ inTurn visit m l
+  pub row-hidden : (l : List ℕ) → ((i : ℕ) → i < m → InRanges i → ⊥) → l ≡ inTurn visit m l
   row-hidden l h =
-      sym (turn-idle visit m l (λ i q k. visit-hidden b other (widthOf (b .size) * r + c + i) k (λ d. h i q (visible-of i q d))))
+      sym (turn-idle visit m l (λ i q k. visit-hidden b other (widthOf (b .size) * r + c + i) k (λ d. h i q (ranges-of i q d))))
 
   -- a row of which the columns from a to before z are visible
   module _ (a z : ℕ) (starts : a ≡ max c (visibleColumns b .from)) (ends : z ≡ min (c + m) (visibleColumns b .past)) (some : a < z)
@@ -135,11 +135,11 @@ module _ (b : Blit) (other : List ℕ) (r c m : ℕ) (fits : c + m ≤ widthOf (
         turn-sweep visit place (λ i m. painted (b .paint) other m (source i) (getD m (place i) 0)) (a - c) (z - c) l m
         (λ i q k from to.
         visit-drawn b other (widthOf (b .size) * r + c + i) k
-        (visible-by i q (visible, from-in c (visibleColumns b .from) a i starts from, past-in c m (visibleColumns b .past) z i ends to)))
+        (ranges-by i q (visible, from-in c (visibleColumns b .from) a i starts from, past-in c m (visibleColumns b .past) z i ends to)))
         (λ i q k out.
         visit-hidden b other (widthOf (b .size) * r + c + i) k
         (λ d.
-        let s = visible-of i q d in
+        let s = ranges-of i q d in
         ⊎-elim (λ h. before-from c (visibleColumns b .from) a i starts h (s .1)) (λ h. after-past c m (visibleColumns b .past) z i ends h q (s .2)) out))
         ∙ ap (λ n. sweep (λ k. place (a - c + k)) (λ k m. painted (b .paint) other m (source (a - c + k)) (getD m (place (a - c + k)) 0)) n l) count
 

@@ -1,4 +1,4 @@
--- The visits of one row are one row drawn at once.
+-- A visit is visible where its row and its column are.
 -- Assumes nothing.
 use mathlib.Core.Path.{_≡_, ap, sym, subst, _∙_}
 use mathlib.Core.Bool.{Bool, true, false, cond, false≢true}
@@ -10,12 +10,12 @@ use Rattle.geometry.specs.Clip.{inBuffer}
 use Rattle.geometry.specs.Blit.{widthOf, bottomToTop, rightToLeft, away}
 use Rattle.geometry.specs.declared.Point.{Point}
 use Rattle.geometry.proofs.Windows.{Shown, buffer-of, buffer-by}
-use Rattle.blits.specs.Blits.{reads, sourceWidth, targetAt, sourceAt, drawnAt}
+use Rattle.blits.specs.Blits.{reads, sourceWidth, targetAt, sourceAt, visibleAt}
 use Rattle.blits.specs.Ranges.{rangeOf, inBoth, visibleRange, visibleColumns, visibleRows}
 use Rattle.blits.specs.Places.{targetRow, sourceRow}
 use Rattle.blits.specs.declared.Blit.{Blit}
 use Rattle.blits.specs.declared.ranges.Range.{Range}
-use Rattle.blits.proofs.Visits.{range-in, range-by, x-from, y-from, point-at, drawn-of, drawn-by}
+use Rattle.blits.proofs.Visits.{range-in, range-by, x-from, y-from, point-at, visible-of, visible-by}
 
 -- j on one axis: in the window, and its source in the buffer
 pub record Within (reads back : Bool) (t lo hi s size j : ℕ) : Type 0 where
@@ -89,7 +89,7 @@ module _ (b : Blit) (j : ℕ) (small : j < 65536) where
   unfolding visibleRows
   row-by = within-by (reads (b .paint)) _ (pointOf (b .to) .y) _ _ (pointOf (b .from) .y) _ j (y-from (b .to)) (y-from (b .from)) small
 
--- visit j of row r is drawn where row and column are
+-- visit j of row r
 module _ (b : Blit) (r j : ℕ) (fits : j < widthOf (b .size)) (size-small : b .size < 4294967296) where
   abbrev k : ℕ
   k = widthOf (b .size) * r + j
@@ -103,9 +103,9 @@ module _ (b : Blit) (r j : ℕ) (fits : j < widthOf (b .size)) (size-small : b .
   pub source-is : sourceAt b k ≡ record { x = away (rightToLeft (b .direction)) (pointOf (b .from) .x) j; y = sourceRow b r }
   source-is = point-at (pointOf (b .from)) (b .size) (b .direction) r j fits
 
-  pub visible-drawn : RowIn b r → ColumnIn b j → drawnAt b k ≡ true
-  visible-drawn s w =
-      drawn-by b k
+  pub in-visible : RowIn b r → ColumnIn b j → visibleAt b k ≡ true
+  in-visible s w =
+      visible-by b k
       (subst (Shown (b .window)) (sym target-is)
       (record { from-left = w .low; to-right = w .high; from-top = s .low; to-bottom = s .high }))
       (λ t.
@@ -115,9 +115,9 @@ module _ (b : Blit) (r j : ℕ) (fits : j < widthOf (b .size)) (size-small : b .
       buffer-by (sourceWidth b) (b .height) (record { x = away (rightToLeft (b .direction)) (pointOf (b .from) .x) j; y = sourceRow b r }) (x .0) (y .0)
       (omega (arith, x .0, x .1)) (omega (arith, y .0, y .1))))
 
-  pub drawn-visible : drawnAt b k ≡ true → RowIn b r × ColumnIn b j
-  drawn-visible h =
-      let d = drawn-of b k h in
+  pub visible-in : visibleAt b k ≡ true → RowIn b r × ColumnIn b j
+  visible-in h =
+      let d = visible-of b k h in
       let s = subst (Shown (b .window)) target-is (d .0) in
       let q : Point = record { x = away (rightToLeft (b .direction)) (pointOf (b .from) .x) j; y = sourceRow b r } in
       let src : reads (b .paint) ≡ true → (origin ≤ q .x) × (origin ≤ q .y) × (q .x - origin < sourceWidth b) × (q .y - origin < b .height) =

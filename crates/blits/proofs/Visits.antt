@@ -1,4 +1,4 @@
--- The visits of one row of a blit: which of them are drawn, and where.
+-- A visit of a blit: where it lies by its row and column, when it is visible, and what it draws.
 -- Assumes nothing.
 use mathlib.Core.Path.{_≡_, refl, ap, _∙_}
 use mathlib.Core.Bool.{Bool, true, false, not, cond, _||_}
@@ -13,7 +13,7 @@ use Rattle.geometry.specs.Clip.{inBuffer, inWindow, placeIn}
 use Rattle.geometry.specs.Blit.{widthOf, bottomToTop, rightToLeft, away, blitPoint}
 use Rattle.geometry.specs.declared.Point.{Point}
 use Rattle.geometry.proofs.Windows.{Shown, shown-of, shown-by}
-use Rattle.blits.specs.Blits.{painted, reads, sourceWidth, targetAt, sourceAt, drawnAt, visited}
+use Rattle.blits.specs.Blits.{painted, reads, sourceWidth, targetAt, sourceAt, visibleAt, visited}
 use Rattle.blits.specs.Ranges.{rangeOf}
 use Rattle.blits.specs.declared.Blit.{Blit}
 
@@ -62,22 +62,22 @@ point-at corner size direction r j h =
       y = away (bottomToTop direction) (corner .y) (at-row w r j h i);
     }
 
--- what a drawn visit has, and what makes it drawn
-pub drawn-of : (b : Blit) (k : ℕ) → drawnAt b k ≡ true
+-- what a visible visit has, and what makes it visible
+pub visible-of : (b : Blit) (k : ℕ) → visibleAt b k ≡ true
     → Shown (b .window) (targetAt b k) × (reads (b .paint) ≡ true → inBuffer (sourceWidth b) (b .height) (sourceAt b k) ≡ true)
-drawn-of b k h =
+visible-of b k h =
     let visible = inWindow (b .window) (targetAt b k) in
     let read = not (reads (b .paint)) || inBuffer (sourceWidth b) (b .height) (sourceAt b k) in (
       shown-of (b .window) (targetAt b k) (and-left visible read h),
       λ t. or-not (reads (b .paint)) (inBuffer (sourceWidth b) (b .height) (sourceAt b k)) (and-right visible read h) t,
     )
 
-pub drawn-by : (b : Blit) (k : ℕ) → Shown (b .window) (targetAt b k)
-    → (reads (b .paint) ≡ true → inBuffer (sourceWidth b) (b .height) (sourceAt b k) ≡ true) → drawnAt b k ≡ true
-drawn-by b k s r =
+pub visible-by : (b : Blit) (k : ℕ) → Shown (b .window) (targetAt b k)
+    → (reads (b .paint) ≡ true → inBuffer (sourceWidth b) (b .height) (sourceAt b k) ≡ true) → visibleAt b k ≡ true
+visible-by b k s r =
     both (shown-by (b .window) (targetAt b k) s) (not-or (reads (b .paint)) (inBuffer (sourceWidth b) (b .height) (sourceAt b k)) r)
 
-pub visit-drawn : (b : Blit) (other : List ℕ) (k : ℕ) (l : List ℕ) → drawnAt b k ≡ true →
+pub visit-drawn : (b : Blit) (other : List ℕ) (k : ℕ) (l : List ℕ) → visibleAt b k ≡ true →
     let at = placeIn (b .width) (targetAt b k) in
     visited b other k l ≡ set l at (painted (b .paint) other l (placeIn (sourceWidth b) (sourceAt b k)) (getD l at 0))
 unfolding visited
@@ -85,8 +85,8 @@ visit-drawn b other k l h =
     let at = placeIn (b .width) (targetAt b k) in
     ap (λ t. cond t (set l at (painted (b .paint) other l (placeIn (sourceWidth b) (sourceAt b k)) (getD l at 0))) l) h
 
-pub visit-hidden : (b : Blit) (other : List ℕ) (k : ℕ) (l : List ℕ) → (drawnAt b k ≡ true → ⊥) → visited b other k l ≡ l
+pub visit-hidden : (b : Blit) (other : List ℕ) (k : ℕ) (l : List ℕ) → (visibleAt b k ≡ true → ⊥) → visited b other k l ≡ l
 unfolding visited
 visit-hidden b other k l h =
     let at = placeIn (b .width) (targetAt b k) in
-    ap (λ t. cond t (set l at (painted (b .paint) other l (placeIn (sourceWidth b) (sourceAt b k)) (getD l at 0))) l) (not-then (drawnAt b k) h)
+    ap (λ t. cond t (set l at (painted (b .paint) other l (placeIn (sourceWidth b) (sourceAt b k)) (getD l at 0))) l) (not-then (visibleAt b k) h)

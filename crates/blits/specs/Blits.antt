@@ -52,15 +52,15 @@ targetAt b k = blitPoint (pointOf (b .to)) (b .size) (b .direction) k
 abbrev pub sourceAt : Blit → ℕ → Point
 sourceAt b k = blitPoint (pointOf (b .from)) (b .size) (b .direction) k
 
--- Visit k is drawn where the window lets it through and its source pixel, where one is read, is in its buffer.
-abbrev pub drawnAt : Blit → ℕ → Bool
-drawnAt b k = inWindow (b .window) (targetAt b k) && (not (reads (b .paint)) || inBuffer (sourceWidth b) (b .height) (sourceAt b k))
+-- Visit k is visible where it is in the window, and its source pixel, where one is read, in the buffer.
+abbrev pub visibleAt : Blit → ℕ → Bool
+visibleAt b k = inWindow (b .window) (targetAt b k) && (not (reads (b .paint)) || inBuffer (sourceWidth b) (b .height) (sourceAt b k))
 
 unfoldable pub visited : Blit → List ℕ → ℕ → List ℕ → List ℕ
 visited b other k l =
     let at = placeIn (b .width) (targetAt b k) in
     let from = placeIn (sourceWidth b) (sourceAt b k) in
-    cond (drawnAt b k) (set l at (painted (b .paint) other l from (getD l at 0))) l
+    cond (visibleAt b k) (set l at (painted (b .paint) other l from (getD l at 0))) l
 
 -- Whether both buffers have the blit's size, with the window inside.
 abbrev pub windowInside : ℕ → ℕ → Window → Bool

@@ -1,5 +1,5 @@
--- Which columns and rows of a blit are visible: those that the window lets through, and whose source pixels, where pixels are
--- read, are in their buffer. Both are counted from the blit's corner.
+-- Which columns and rows of a blit are visible, counted from its corner: those in the window, and whose source pixels, where
+-- pixels are read, are in the buffer.
 use mathlib.Core.Bool.{Bool, cond}
 use Prim.Native.Nat.{ℕ, _+_, _-_, min, max}
 use Rattle.geometry.specs.Coordinates.{origin, pointOf}

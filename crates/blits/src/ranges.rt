@@ -1,4 +1,4 @@
-// Which columns and rows of a blit are visible: clip and buffers let them through.
+// Which columns and rows of a blit are visible: in the window, and where pixels are read, with their source in the buffer.
 ghost use mathlib.Core.Path.{_≡_};
 ghost use Prim.Native.Nat.{_+_, _<_};
 ghost use Rattle.blits.specs.Blits.{reads};
