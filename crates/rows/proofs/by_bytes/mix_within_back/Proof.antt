@@ -1,0 +1,75 @@
+-- The loop keeps `Swept`: k visits are done. Each turn is one visit more, by `sweep-more`.
+use native.Mathlib.Omega.{arith}
+use borrow.Author.Needs.{needs}
+use Prim.Native.Nat.{_-_}
+use Rattle.rows.specs.Rows.{mixed, movedBack}
+use Rattle.lemmas.proofs.Sweeps.{sweep-start, sweep-more, Swept, swept-start, swept-set, swept-end}
+use Rattle.rows.proofs.by_bytes.mix_within_back.Statement.{statement}
+use Rattle.rows.proofs.by_bytes.mix_within_back.Tie as tie
+
+abbrev Inv-loop : tie.InvT-loop
+Inv-loop buffer₀ at from n mix k₀ buffer k = Swept (λ k. movedBack (mixed mix) k buffer₀ at from) n buffer₀ buffer k
+
+abbrev μ-loop : tie.MeasureT-loop
+μ-loop buffer₀ at from n mix k₀ buffer k = n - k
+
+loop-holds : tie.Need-loop-holds Inv-loop μ-loop
+loop-holds c = swept-start _ _ _ (sweep-start _ _ _)
+
+add-k : tie.Need-add-k Inv-loop μ-loop
+add-k c = omega arith
+
+sub-mix-byte : tie.Need-sub-mix-byte Inv-loop μ-loop
+sub-mix-byte c = omega arith
+
+slice-read-mix-byte : tie.Need-slice-read-mix-byte Inv-loop μ-loop
+slice-read-mix-byte c = omega arith
+
+sub-mix-byte-2 : tie.Need-sub-mix-byte-2 Inv-loop μ-loop
+sub-mix-byte-2 c = omega arith
+
+slice-read-mix-byte-2 : tie.Need-slice-read-mix-byte-2 Inv-loop μ-loop
+slice-read-mix-byte-2 c = omega arith
+
+mix-byte-requires : tie.Need-mix-byte-requires Inv-loop μ-loop
+mix-byte-requires c κs = search needs
+
+sub-buffer : tie.Need-sub-buffer Inv-loop μ-loop
+sub-buffer c = omega arith
+
+slice-write-buffer : tie.Need-slice-write-buffer Inv-loop μ-loop
+slice-write-buffer c = omega arith
+
+loop-less : tie.Need-loop-less Inv-loop μ-loop
+loop-less c = omega arith
+
+loop-again : tie.Need-loop-again Inv-loop μ-loop
+loop-again c =
+    let x = c .before .before .before .before .loop .inv in
+    swept-set x _ _ (omega arith) (sweep-more _ _ _ _ _ _ (x .done) (c .mix-byte .ensures))
+
+same-length : tie.Need-same-length Inv-loop μ-loop
+same-length c = omega arith
+
+returns : tie.Need-returns Inv-loop μ-loop
+returns c = swept-end (c .before .loop .inv) (c .loop-test .left)
+
+pub mix-within-back-spec : {M : Type 1} → statement M
+mix-within-back-spec =
+    tie.close
+    (tie.spec
+    Inv-loop
+    μ-loop
+    loop-holds
+    add-k
+    sub-mix-byte
+    slice-read-mix-byte
+    sub-mix-byte-2
+    slice-read-mix-byte-2
+    mix-byte-requires
+    sub-buffer
+    slice-write-buffer
+    loop-less
+    loop-again
+    same-length
+    returns)

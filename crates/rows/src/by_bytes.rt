@@ -1,0 +1,129 @@
+// Rows one byte after the other.
+ghost use mathlib.Core.Path.{_≡_};
+ghost use mathlib.Core.Logic.{_⊎_};
+ghost use mathlib.Core.Bool.{true};
+ghost use Prim.Native.Nat.{_+_, _≤_};
+ghost use lib.ListN.{length};
+ghost use Rattle.lemmas.specs.Sweeps.{sweep};
+ghost use Rattle.rows.specs.Rows.{mixed, filled, copied, moved, movedBack};
+use crate::Mix;
+use raster::Pen;
+
+// The new byte. KEY chooses a value and skips no store, so that the loops below are vectorised.
+fn mix_byte(mix: Mix, s: u8, d: u8) -> u8
+    ensures { λ r. ⌜ r ≡ mixed mix s d ⌝ }
+{
+    let q = mix.selectors;
+    let new = (d & ((s & q.both) ^ q.old)) ^ ((s & q.source) ^ q.none);
+    if mix.keyed & (s == mix.key) { d } else { new }
+}
+
+// Each byte becomes x.
+pub(crate) fn fill_bytes(buffer: &mut [u8], at: usize, n: usize, x: u8)
+    requires { ⌜ at + n ≤ length (now buffer) ⌝ }
+    ensures { λ _. ⌜ now (buffer .exit) ≡ sweep (λ k. at + k) (λ k m. x) n (now (buffer .entry)) ⌝ }
+{
+    let mut k: usize = 0;
+    while k < n {
+        buffer[at + k] = x;
+        k += 1;
+    }
+}
+
+// Each byte is drawn with the pen.
+pub(crate) fn draw_bytes(buffer: &mut [u8], at: usize, n: usize, pen: Pen)
+    requires { ⌜ at + n ≤ length (now buffer) ⌝ }
+    ensures { λ _. ⌜ now (buffer .exit) ≡ filled pen n (now (buffer .entry)) at ⌝ }
+{
+    let mut k: usize = 0;
+    while k < n {
+        buffer[at + k] = pen.draw(buffer[at + k]);
+        k += 1;
+    }
+}
+
+// The source bytes as they are.
+pub(crate) fn copy_bytes(buffer: &mut [u8], at: usize, source: &[u8], from: usize, n: usize)
+    requires { ⌜ (at + n ≤ length (now buffer)) × (from + n ≤ length (now source)) ⌝ }
+    ensures { λ _. ⌜ now (buffer .exit) ≡ copied (λ s d. s) n (now (buffer .entry)) at (now (source .entry)) from ⌝ }
+{
+    let mut k: usize = 0;
+    while k < n {
+        buffer[at + k] = source[from + k];
+        k += 1;
+    }
+}
+
+// The source bytes mixed with the old ones.
+pub(crate) fn mix_bytes(
+    buffer: &mut [u8],
+    at: usize,
+    source: &[u8],
+    from: usize,
+    n: usize,
+    mix: Mix,
+)
+    requires { ⌜ (at + n ≤ length (now buffer)) × (from + n ≤ length (now source)) ⌝ }
+    ensures { λ _. ⌜ now (buffer .exit) ≡ copied (mixed mix) n (now (buffer .entry)) at (now (source .entry)) from ⌝ }
+{
+    let mut k: usize = 0;
+    while k < n {
+        buffer[at + k] = mix_byte(mix, source[from + k], buffer[at + k]);
+        k += 1;
+    }
+}
+
+// True only where n pixels may be read before the first of them is written.
+pub(crate) fn is_clear(at: usize, from: usize, n: usize) -> bool
+    ensures { λ r. ⌜ (r ≡ true → (at ≤ from) ⊎ (from + n ≤ at)) ⌝ }
+{
+    if at <= from {
+        return true;
+    }
+    n <= at - from
+}
+
+// Within one buffer, where a byte may be read that was written before.
+pub(crate) fn move_bytes(buffer: &mut [u8], at: usize, from: usize, n: usize)
+    requires { ⌜ (at + n ≤ length (now buffer)) × (from + n ≤ length (now buffer)) ⌝ }
+    ensures { λ _. ⌜ now (buffer .exit) ≡ moved (λ s d. s) n (now (buffer .entry)) at from ⌝ }
+{
+    let mut k: usize = 0;
+    while k < n {
+        buffer[at + k] = buffer[from + k];
+        k += 1;
+    }
+}
+
+pub(crate) fn move_bytes_back(buffer: &mut [u8], at: usize, from: usize, n: usize)
+    requires { ⌜ (n ≤ at) × (n ≤ from) × (at ≤ length (now buffer)) × (from ≤ length (now buffer)) ⌝ }
+    ensures { λ _. ⌜ now (buffer .exit) ≡ movedBack (λ s d. s) n (now (buffer .entry)) at from ⌝ }
+{
+    let mut k: usize = 0;
+    while k < n {
+        k += 1;
+        buffer[at - k] = buffer[from - k];
+    }
+}
+
+pub(crate) fn mix_within(buffer: &mut [u8], at: usize, from: usize, n: usize, mix: Mix)
+    requires { ⌜ (at + n ≤ length (now buffer)) × (from + n ≤ length (now buffer)) ⌝ }
+    ensures { λ _. ⌜ now (buffer .exit) ≡ moved (mixed mix) n (now (buffer .entry)) at from ⌝ }
+{
+    let mut k: usize = 0;
+    while k < n {
+        buffer[at + k] = mix_byte(mix, buffer[from + k], buffer[at + k]);
+        k += 1;
+    }
+}
+
+pub(crate) fn mix_within_back(buffer: &mut [u8], at: usize, from: usize, n: usize, mix: Mix)
+    requires { ⌜ (n ≤ at) × (n ≤ from) × (at ≤ length (now buffer)) × (from ≤ length (now buffer)) ⌝ }
+    ensures { λ _. ⌜ now (buffer .exit) ≡ movedBack (mixed mix) n (now (buffer .entry)) at from ⌝ }
+{
+    let mut k: usize = 0;
+    while k < n {
+        k += 1;
+        buffer[at - k] = mix_byte(mix, buffer[from - k], buffer[at - k]);
+    }
+}
