@@ -25,7 +25,7 @@ use Rattle.blits.specs.declared.Paint.{Paint}
 use Rattle.blits.specs.declared.ranges.Range.{Range}
 use Rattle.blits.proofs.Bounds.{source-small, rows-far, x-below, y-below}
 use Rattle.blits.proofs.Visits.{y-from}
-use Rattle.blits.proofs.Rowwise.{RowIn, row-of, row-by}
+use Rattle.blits.proofs.Axes.{RowIn, row-of, row-by}
 use Rattle.blits.proofs.Drawn.{from-least, past-most, before-from, after-past}
 use Rattle.blits.proofs.Rooms.{edge-below, away-below, Inside, inside-of, none-in-row, none-in-columns, target-room, source-room, whole-row}
 

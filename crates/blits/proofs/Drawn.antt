@@ -23,7 +23,7 @@ use Rattle.blits.specs.declared.Paint.{Paint}
 use Rattle.lemmas.proofs.Turns.{turn-idle}
 use Rattle.blits.proofs.Painted.{same-source}
 use Rattle.blits.proofs.Visits.{x-from, visit-drawn, visit-hidden}
-use Rattle.blits.proofs.Rowwise.{ColumnIn, RowIn, column-of, column-by, target-is, source-is, in-visible, visible-in}
+use Rattle.blits.proofs.Axes.{ColumnIn, RowIn, column-of, column-by, target-is, source-is, in-visible, visible-in}
 
 -- a sweep over the places of a row, in either direction
 sweep-row : (paint : Paint) (back : Bool) (other : List ℕ) (at from n : ℕ) (place source : ℕ → ℕ)

@@ -1,5 +1,5 @@
 pub mod Visits
-pub mod Rowwise
+pub mod Axes
 pub mod Drawn
 pub mod Bounds
 pub mod Painted

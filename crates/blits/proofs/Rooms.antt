@@ -23,7 +23,7 @@ use Rattle.blits.specs.declared.Blit.{Blit}
 use Rattle.blits.specs.declared.Paint.{Paint}
 use Rattle.blits.specs.declared.Paint.the-variants.{Solid, Copied, Moved, Stippled, StippledWithin}
 use Rattle.blits.proofs.Visits.{x-from}
-use Rattle.blits.proofs.Rowwise.{ColumnIn, RowIn, column-of}
+use Rattle.blits.proofs.Axes.{ColumnIn, RowIn, column-of}
 use Rattle.blits.proofs.Painted.{same-source-row}
 use Rattle.blits.proofs.Drawn.{from-least, past-most, row-hidden, row-drawn}
 

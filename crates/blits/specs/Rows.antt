@@ -45,6 +45,7 @@ boxOf paint width to from direction across down other l =
     let source = placeAt from stride direction (across .from) (across .past) (down .from) in
     inTurn (rowAt paint (rightToLeft direction) (bottomToTop direction) width stride other target source (across .past - across .from)) (down .past - down .from) l
 
+-- What a box needs of the buffer that is drawn on and of the other.
 pub record BoxFits (paint : Paint) (width to from direction : ℕ) (across down : Range) (other own : ℕ) : Type 0 where
   pub across-small : across .past ≤ 65536
   pub down-small : down .past ≤ 65536

@@ -1,4 +1,4 @@
-// Rows of pixels by bits, each as far from the one before it, down or up.
+// Rows of pixels by bits that are `width` apart, down or up.
 ghost use mathlib.Core.Path.{_≡_};
 ghost use mathlib.Core.Bool.{Bool};
 ghost use mathlib.Core.List.{List};
@@ -15,7 +15,8 @@ use crate::bits::is_apart;
 use crate::places::along;
 use stipples::Stipple;
 
-// Places in the source are bits; its rows are whole bytes, so all of them begin at the same bit of a byte.
+// n pixels of each of so many rows. Places in the source are bits; its rows are whole bytes, so that all of them begin at the
+// same bit of a byte.
 fn wide_rows(
     up: bool,
     width: usize,
@@ -71,6 +72,7 @@ fn narrow_rows(
     }
 }
 
+// The same for any width.
 pub(crate) fn stipple_rows(
     up: bool,
     width: usize,
@@ -96,6 +98,7 @@ pub(crate) fn stipple_rows(
     wide_rows(up, width, buffer, at, other, from, n, rows, s);
 }
 
+// The same by bits of the buffer itself.
 pub(crate) fn stipple_within(
     back: bool,
     up: bool,

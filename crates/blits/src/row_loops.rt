@@ -1,4 +1,4 @@
-// Rows of pixels, each as far from the one before it, down or up: a loop for each kind of paint, those by bits in bit_loops.rt.
+// Rows of pixels that are `width` apart, down or up: a loop for each kind of paint, those by bits in bit_loops.rt.
 ghost use mathlib.Core.Path.{_≡_};
 ghost use mathlib.Core.Bool.{Bool};
 ghost use mathlib.Core.List.{List};
@@ -58,6 +58,7 @@ fn fill_rows(up: bool, width: usize, buffer: &mut [u8], at: usize, n: usize, row
     }
 }
 
+// The same from another buffer, whose rows are `stride` apart.
 fn copy_rows(
     up: bool,
     width: usize,
@@ -84,6 +85,7 @@ fn copy_rows(
     }
 }
 
+// The same from the buffer itself.
 fn move_rows(
     back: bool,
     up: bool,
@@ -110,7 +112,7 @@ fn move_rows(
     }
 }
 
-// The same, whatever the rows are painted from: a loop for each.
+// The same, whatever the rows are painted from.
 pub(crate) fn paint_rows(
     paint: Paint,
     back: bool,

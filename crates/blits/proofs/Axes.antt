@@ -1,4 +1,4 @@
--- A visit is visible where its row and its column are.
+-- A visit is visible where it is on both axes: its row and its column.
 -- Assumes nothing.
 use mathlib.Core.Path.{_≡_, ap, sym, subst, _∙_}
 use mathlib.Core.Bool.{Bool, true, false, cond, false≢true}
