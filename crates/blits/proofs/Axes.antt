@@ -38,7 +38,7 @@ module _ (reads back : Bool) (t lo hi s size j : ℕ) (t-from : 65536 ≤ t) (s-
   unfolding visibleRange
   visible-solid e = ap (λ r. cond r both-ranges (rangeOf back t lo hi)) e
 
-  pub within-of : visible .from ≤ j → j < visible .past → Within reads back t lo hi s size j
+  within-of : visible .from ≤ j → j < visible .past → Within reads back t lo hi s size j
   within-of f p =
       by-cases reads
       (λ r.
@@ -52,7 +52,7 @@ module _ (reads back : Bool) (t lo hi s size j : ℕ) (t-from : 65536 ≤ t) (s-
       let q = range-in back t lo hi j t-from small (subst (λ c. c .from ≤ j) e f) (subst (λ c. j < c .past) e p) in
       record { low = q .0; high = q .1; source = λ u. absurd (false≢true (sym r ∙ u)) })
 
-  pub within-by : Within reads back t lo hi s size j → (visible .from ≤ j) × (j < visible .past)
+  within-by : Within reads back t lo hi s size j → (visible .from ≤ j) × (j < visible .past)
   within-by w =
       let q = range-by back t lo hi j t-from small (w .low) (w .high) in
       by-cases reads

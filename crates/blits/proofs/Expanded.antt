@@ -48,7 +48,7 @@ only-eight n (inl e) h = omega arith
 only-eight n (inr e) h = absurd (h e)
 
 -- one pixel by a bit of the same buffer; `to` and `of` are the places and the bits in the order of the visits
-pub own-more : (s : Stipple) (to of : ℕ → ℕ) (a : ℕ) (l m r : List ℕ) (bits place start : ℕ) → place ≡ to a → start ≡ of a
+own-more : (s : Stipple) (to of : ℕ → ℕ) (a : ℕ) (l m r : List ℕ) (bits place start : ℕ) → place ≡ to a → start ≡ of a
     → m ≡ by s to (λ k w. bitAt w (of k)) a l → r ≡ byByte s 1 m place bits
     → ((k : ℕ) → k < 1 → bitIn k bits ≡ bitAt m (start + k)) → r ≡ by s to (λ k w. bitAt w (of k)) (a + 1) l
 unfolding sweep

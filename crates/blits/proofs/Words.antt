@@ -112,13 +112,13 @@ pub shifted-one : (m : ℕ) → m < 8 → (1 * 2 ^ (8 * m)) % 2 ^ 64 ≡ 2 ^ (8 
 shifted-one m h = shl-exact 1 (8 * m) 64 (lit< tt) (omega arith) ∙ one-mul (2 ^ (8 * m))
 
 -- the bytes of the low part of a word
-pub byte-below : (x m k : ℕ) → k < m → byteIn k (x % 2 ^ (8 * m)) ≡ byteIn k x
+byte-below : (x m k : ℕ) → k < m → byteIn k (x % 2 ^ (8 * m)) ≡ byteIn k x
 byte-below x m k h =
     let n = 8 * (m - (k + 1)) in
     let e : 8 * m ≡ n + 8 + 8 * k = omega arith in
     ap (λ e. x % 2 ^ e / 2 ^ (8 * k) % 256) e ∙ ap (λ y. y % 256) (field x (n + 8) (8 * k)) ∙ mod-mod-pow (x / 2 ^ (8 * k)) n 8
 
-pub byte-above : (x m k : ℕ) → m ≤ k → byteIn k (x % 2 ^ (8 * m)) ≡ 0
+byte-above : (x m k : ℕ) → m ≤ k → byteIn k (x % 2 ^ (8 * m)) ≡ 0
 byte-above x m k h =
     let low : x % 2 ^ (8 * m) < 2 ^ (8 * k) = lt-of-lt-of-le (mod-lt x (pow-pos (8 * m))) (pow-mono (omega arith)) in
     ap (λ y. y % 256) (div-eq-of-lt low)

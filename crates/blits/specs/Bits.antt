@@ -37,13 +37,9 @@ expanded s n l at source from = sweep (λ k. at + k) (λ k m. stippled s (bitAt 
 abbrev pub expandedWithin : Stipple → ℕ → List ℕ → ℕ → ℕ → List ℕ
 expandedWithin s n l at from = sweep (λ k. at + k) (λ k m. stippled s (bitAt m (from + k)) (getD m (at + k) 0)) n l
 
--- The last k of n pixels, from right to left.
-abbrev pub backTo : Stipple → ℕ → ℕ → List ℕ → ℕ → ℕ → List ℕ
-backTo s n k l at from =
-    sweep (λ k. at + n - (k + 1)) (λ k m. stippled s (bitAt m (from + n - (k + 1))) (getD m (at + n - (k + 1)) 0)) k l
-
 abbrev pub expandedBack : Stipple → ℕ → List ℕ → ℕ → ℕ → List ℕ
-expandedBack s n l at from = backTo s n n l at from
+expandedBack s n l at from =
+    sweep (λ k. at + n - (k + 1)) (λ k m. stippled s (bitAt m (from + n - (k + 1))) (getD m (at + n - (k + 1)) 0)) n l
 
 -- What n bits from bit `first` of a byte on need of a buffer.
 pub record BitsFit (byte first n other : ℕ) : Type 0 where
