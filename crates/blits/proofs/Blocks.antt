@@ -5,7 +5,7 @@ use mathlib.Core.List.{List}
 use Prim.Native.Nat.{ℕ, _+_, _-_, _*_, _%_, _^_, _≤_, _<_}
 use native.Mathlib.Nat.{mod-eq-of-lt}
 use native.Mathlib.Omega.{arith}
-use lib.Bits.{bitXor, and-zero-l, and-zero-r, xor-zero-r}
+use lib.Bits.{bitXor, and-zero-l, and-zero-r}
 use lib.ListN.{getD}
 use lib.Pow.{shl-shr}
 use Rattle.lemmas.specs.Sweeps.{sweep}
@@ -69,7 +69,7 @@ module _ (s : Stipple) (q : Inks) (bits old new m : ℕ) (l r : List ℕ) (at : 
 -- where no byte is kept the old bytes are no matter
 plain-word : (q : Inks) (bits old : ℕ) → Plain q → inked q bits 0 ≡ inked q bits old
 unfolding inked
-plain-word q bits old (keep, change) = simp (keep, change, and-zero-l, and-zero-r, xor-zero-r)
+plain-word q bits old (keep, change) = simp (keep, change, and-zero-l, and-zero-r)
 
 byte-in : (d k : ℕ) → d < 256 → byteIn k (d * 2 ^ (8 * k)) ≡ d
 byte-in d k h = ap (λ x. x % 256) (shl-shr d (8 * k)) ∙ mod-eq-of-lt h
