@@ -1,4 +1,4 @@
-// Rows of pixels from bits, eight pixels at a time (document 02, R-2).
+// One row of pixels from bits: eight pixels at a time, or one by one (document 02, R-2).
 ghost use mathlib.Core.Path.{_≡_};
 ghost use mathlib.Core.Bool.{true, cond};
 ghost use mathlib.Core.Logic.{_⊎_};

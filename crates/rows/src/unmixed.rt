@@ -1,4 +1,4 @@
-// Rows of bytes as they are, of one byte or of the source's: at once where that is the same.
+// Rows of one byte, and rows of the source bytes as they are: at once where that is the same.
 ghost use mathlib.Core.Path.{_≡_};
 ghost use Prim.Native.Nat.{_+_, _≤_};
 ghost use lib.ListN.{length};
@@ -10,7 +10,7 @@ use crate::by_bytes::is_clear;
 use crate::by_bytes::move_bytes;
 use crate::by_bytes::move_bytes_back;
 
-// The same for b to 2b bytes: the first b, and the last b.
+// b to 2b bytes become x: the first b, and the last b.
 fn fill_twice(buffer: &mut [u8], at: usize, n: usize, b: usize, x: u8)
     requires { ⌜ (b ≤ n) × (n ≤ b + b) × (at + n ≤ length (now buffer)) ⌝ }
     ensures { λ _. ⌜ now (buffer .exit) ≡ sweep (λ k. at + k) (λ k m. x) n (now (buffer .entry)) ⌝ }
