@@ -1,4 +1,4 @@
--- Visits row after row.
+-- Visits row after row: what their loop keeps, whole rows and the rest, and the tests before them.
 -- Assumes nothing.
 use mathlib.Core.Path.{_≡_, refl, ap, sym, _∙_}
 use mathlib.Core.Bool.{true, false, cond, _&&_}

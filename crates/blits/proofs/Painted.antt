@@ -1,4 +1,4 @@
--- A row painted is a row of visits, whatever it is painted from.
+-- Rows by the paint: one drawn is a row of visits, from whatever source where nothing is read; and what the loops need.
 -- Assumes nothing.
 use mathlib.Core.Path.{_≡_, refl, ap, sym, subst, _∙_}
 use mathlib.Core.Bool.{Bool, true, false, cond}
