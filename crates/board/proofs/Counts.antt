@@ -1,12 +1,11 @@
 -- The steps of a run are the lesser of its budget and the steps left in both lists.
 -- Assumes nothing.
 use mathlib.Core.Path.{_≡_, refl, ap, ap₂, sym, _∙_}
-use mathlib.Core.Bool.{Bool, true, false, cond}
+use mathlib.Core.Bool.{false}
 use mathlib.Core.List.{List, [], _∷_, _++_, append-nil}
 use Prim.Native.Nat.{ℕ, zero, suc, _+_, min}
 use native.Mathlib.Omega.{arith}
 use Rattle.lemmas.proofs.Booleans.{by-cases, first-of, second-of}
-use Rattle.geometry.specs.declared.Extent.{Extent}
 use Rattle.entries.specs.declared.decoding.Entry.{Entry}
 use Rattle.lists.specs.Cursors.{cursorOn, fetchedOf, endedOf, restOf}
 use Rattle.lists.specs.declared.cursors.Cursor.{Cursor}
@@ -19,12 +18,12 @@ use Rattle.commands.specs.Wholes.{stepsOf}
 use Rattle.commands.proofs.Counts.{visit-steps, take-steps, none-left}
 use Rattle.slots.specs.Slots.{emptySlot}
 use Rattle.slots.proofs.Slotted.{active-rest, slot-rest}
-use Rattle.board.specs.Steps.{Machine, machine, nextOn, withSteps, settledOf, movedTo, sceneOf, actOf, stepOf}
+use Rattle.board.specs.Steps.{Machine, nextOn, withSteps, settledOf, movedTo, sceneOf, actOf, stepOf}
 use Rattle.board.specs.Runs.{Outcome, byNext, runOf}
 use Rattle.board.specs.Left.{toCome, stepsLeft, LesserOfBudgetAndLeft}
 use Rattle.board.specs.declared.record.Board.{Board}
 use Rattle.board.proofs.Forms.{Good, good-of, none-waits, pixels-of, next-below}
-use Rattle.board.proofs.Keeps.{followed, holds-list, stays-well-formed, settled-sizes, settled-engine}
+use Rattle.board.proofs.Keeps.{followed, stays-well-formed, settled-sizes, settled-engine}
 
 -- settling leaves the rest: the next list takes its turn with no step
 pub settled-to-come : (l : List ℕ) (b : Board) → toCome l (settledOf b) ≡ toCome l b

@@ -1,14 +1,13 @@
 -- A well formed record, part by part.
 -- Assumes nothing.
 use mathlib.Core.Path.{_≡_, sym, subst, _∙_}
-use mathlib.Core.Bool.{Bool, true, false, not, _&&_, _||_, false≢true}
+use mathlib.Core.Bool.{Bool, true, false, not, _&&_, false≢true}
 use Prim.Native.Nat.{_<_}
 use borrow.Author.Tests.{not-true}
 use Rattle.lemmas.proofs.Booleans.{by-cases, both, and-left, and-right, or-first}
 use Rattle.commands.specs.Visits.{countOf}
 use Rattle.commands.specs.Record.{engineOk}
 use Rattle.commands.proofs.Sound.{engine-pixels}
-use Rattle.lists.specs.Cursors.{endedOf}
 use Rattle.slots.specs.Slots.{sizesOk, slotOk, activeOk}
 use Rattle.slots.proofs.Slotted.{Fetching, Visiting, fetching-of, visiting-of, active-cursor}
 use Rattle.board.specs.Record.{orderOk, wellFormed}

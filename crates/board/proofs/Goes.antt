@@ -1,24 +1,21 @@
 -- Runs: how they begin, go on and compose.
 -- Assumes nothing.
 use mathlib.Core.Path.{_≡_, refl, ap, sym, subst, _∙_}
-use mathlib.Core.Bool.{Bool, true, false, cond, _&&_, false≢true}
+use mathlib.Core.Bool.{Bool, true, false, _&&_, false≢true}
 use mathlib.Core.List.{List}
 use Prim.Native.Nat.{ℕ, zero, suc, _+_, _-_, _≤_, _<_}
 use native.Mathlib.Numerals.{add-one}
 use native.Mathlib.Omega.{arith}
-use borrow.Author.Tests.{ltb-true, ltb-false, lt-ltb}
+use borrow.Author.Tests.{ltb-true, ltb-false}
 use lib.Dec.{ltb}
 use lib.ListN.{length}
-use Rattle.lemmas.proofs.Booleans.{by-cases, and-left, and-right, second-of}
-use Rattle.geometry.specs.declared.Extent.{Extent}
-use Rattle.entries.specs.declared.decoding.Entry.{Entry}
+use Rattle.lemmas.proofs.Booleans.{by-cases, second-of}
 use Rattle.lists.specs.Spans.{endOf}
-use Rattle.lists.specs.Cursors.{nextOf, fetchedOf, endedOf}
-use Rattle.lists.specs.declared.cursors.Cursor.{Cursor}
+use Rattle.lists.specs.Cursors.{fetchedOf, endedOf}
 use Rattle.lists.specs.declared.cursors.Next.{Next}
 use Rattle.lists.specs.declared.cursors.Next.the-variants.{Ended, Visit, Take, Broken}
 use Rattle.lists.proofs.Fetches.{next-ended, ended-next}
-use Rattle.commands.specs.Steps.{Scene, visitOf, takenOf}
+use Rattle.commands.specs.Steps.{visitOf, takenOf}
 use Rattle.leaps.specs.ListRuns.{Reached, stopped, longer, byStep, runFrom, listRun}
 use Rattle.leaps.proofs.Running.{by-next, run-fits, Within, within}
 use Rattle.answers.specs.Reports.{report}

@@ -3,13 +3,10 @@
 use mathlib.Core.Path.{_≡_, refl, ap, sym, subst, _∙_}
 use mathlib.Core.Bool.{Bool, true, false, not, cond, _&&_, _||_}
 use mathlib.Core.List.{List, []}
-use Prim.Native.Nat.{ℕ, _+_, _<_}
+use Prim.Native.Nat.{ℕ, _<_}
 use native.Mathlib.Omega.{arith}
 use lib.ListN.{length}
 use Rattle.lemmas.proofs.Booleans.{by-cases, or-by, first-of, second-of}
-use Rattle.geometry.specs.declared.Extent.{Extent}
-use Rattle.entries.specs.Legality.{entryLegal}
-use Rattle.entries.specs.declared.decoding.Entry.{Entry}
 use Rattle.lists.specs.Spans.{endOf, spanOk}
 use Rattle.lists.specs.Cursors.{endedOf, fetchedOf}
 use Rattle.lists.specs.declared.cursors.Cursor.{Cursor}
@@ -23,7 +20,6 @@ use Rattle.commands.proofs.Visiting.{keeps-lengths}
 use Rattle.commands.proofs.Sound.{visits-stay-ok, entries-stay-ok}
 use Rattle.slots.specs.Slots.{sizesOk, emptySlot, activeOn, slotOk, activeOk}
 use Rattle.slots.proofs.Slotted.{Visiting, active-span, active-end, begins, stays-active}
-use Rattle.board.specs.Record.{wellFormed}
 use Rattle.board.specs.Steps.{Machine, nextOn, withSteps, settledOf, movedTo, sceneOf, actOf, stepOf}
 use Rattle.board.specs.Left.{StaysWellFormed, KeepsLengths}
 use Rattle.board.specs.declared.record.Board.{Board}

@@ -10,7 +10,7 @@ use Rattle.slots.specs.Slots.{slotOf}
 use Rattle.slots.specs.Calls.{postReport, Lent, storeReport, writeReport}
 use Rattle.slots.proofs.Grounds.{post-fits}
 use Rattle.board.specs.Record.{wellFormed}
-use Rattle.board.specs.Calls.{Reply, answered, postedOf, postBy, postCall, kept, keptBy, storeCall, writeCall}
+use Rattle.board.specs.Calls.{answered, postedOf, postBy, postCall, kept, keptBy, storeCall, writeCall}
 use Rattle.board.specs.declared.record.Board.{Board}
 
 module _ (l : List ℕ) (start count : ℕ) (b : Board) where

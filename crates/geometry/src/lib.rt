@@ -1,12 +1,14 @@
 // Where pixels lie: coordinates, the clip rectangle, the place of a pixel in its buffer, and the pixels that a line and
 // a blit visit (document 01, Entry layout and Pixels).
 ghost use mathlib.Core.Path.{_≡_};
-ghost use Prim.Native.Nat.{_<_, _≤_, min, max};
+ghost use Prim.Native.Nat.{_<_, _≤_};
 ghost use lib.Dec.{eqb};
 ghost use Rattle.geometry.specs.Coordinates.{coordinateOf, pointOf};
 ghost use Rattle.geometry.specs.Clip.{rectOf, inRect, windowOf, placeOf};
 ghost use Rattle.geometry.specs.Line.{distance, stepsOf, lineCount, nearestOf, lineVisit};
 ghost use Rattle.geometry.specs.Blit.{blitCount, blitCell, away, cellVisit};
+use numbers::max;
+use numbers::min;
 
 // Coordinates are held 98,304 up: this is the coordinate 0.
 pub const ORIGIN: usize = 98304;
@@ -86,10 +88,10 @@ pub fn window_of(extent: Extent, clip: bool, top_left: u32, bottom_right: u32) -
     if clip {
         let c = rect_of(top_left, bottom_right);
         return Window {
-            left: larger(ORIGIN, c.left),
-            right: smaller(right, c.right + 1),
-            top: larger(ORIGIN, c.top),
-            bottom: smaller(bottom, c.bottom + 1),
+            left: max(ORIGIN, c.left),
+            right: min(right, c.right + 1),
+            top: max(ORIGIN, c.top),
+            bottom: min(bottom, c.bottom + 1),
         };
     }
     Window {
@@ -140,25 +142,13 @@ fn distance_of(a: usize, b: usize) -> usize
     if a <= b { b - a } else { a - b }
 }
 
-fn larger(a: usize, b: usize) -> usize
-    ensures { λ r. ⌜ r ≡ max a b ⌝ }
-{
-    if a <= b { b } else { a }
-}
-
-fn smaller(a: usize, b: usize) -> usize
-    ensures { λ r. ⌜ r ≡ min a b ⌝ }
-{
-    if a <= b { a } else { b }
-}
-
 // n, the number of steps from one end of a line to the other.
 pub fn line_steps(from: u32, to: u32) -> usize
     ensures { λ r. ⌜ r ≡ stepsOf (pointOf from) (pointOf to) ⌝ }
 {
     let a = point_of(from);
     let b = point_of(to);
-    larger(distance_of(a.x, b.x), distance_of(a.y, b.y))
+    max(distance_of(a.x, b.x), distance_of(a.y, b.y))
 }
 
 // The pixels that a line visits; skip_last is NLST.

@@ -11,7 +11,6 @@ use Rattle.lemmas.proofs.Booleans.{by-cases, and-left, and-right}
 use Rattle.registers.specs.declared.dashes.Pattern.{Pattern}
 use Rattle.strokes.specs.Strokes.{Dashed}
 use Rattle.commands.specs.Visits.{commandIn, countOf, targetOf, sourceAt}
-use Rattle.sources.specs.Sources.{sourceOf}
 use Rattle.commands.specs.Steps.{Scene, scene, inked, patternAfter, advancedOf, visitOf, visitsOf}
 use Rattle.commands.specs.declared.Engine.{Engine}
 use Rattle.commands.proofs.Bounds.{count-same}

@@ -1,7 +1,7 @@
 // Many steps of one display list.
 ghost use mathlib.Core.Path.{_≡_};
 ghost use mathlib.Core.Bool.{true};
-ghost use Prim.Native.Nat.{_-_, _<_, min, max};
+ghost use Prim.Native.Nat.{_<_};
 ghost use Rattle.lists.specs.Spans.{endOf};
 ghost use Rattle.commands.specs.Steps.{scene};
 ghost use Rattle.leaps.specs.ListRuns.{reached, runFrom, listRun, VisitsDone};
@@ -11,6 +11,9 @@ use geometry::Extent;
 use lists::Cursor;
 use lists::Next;
 use lists::next_of;
+use numbers::max;
+use numbers::min;
+use numbers::saturating_sub;
 
 // The engine after a number of steps.
 pub struct Burst {
@@ -18,34 +21,17 @@ pub struct Burst {
     pub steps: u64,
 }
 
-fn least(a: u64, b: u64) -> u64
-    ensures { λ r. ⌜ r ≡ min a b ⌝ }
-{
-    if a <= b { a } else { b }
-}
-
-// The pixels left of a command under way; where its count says none, the one that a step visits.
-fn pixels_left(count: usize, visited: u32) -> u64
-    ensures { λ r. ⌜ r ≡ max 1 (count - visited) ⌝ }
-{
-    if count <= visited as usize {
-        1
-    } else {
-        (count - visited as usize) as u64
-    }
-}
-
-// The pixels of the command under way, as many as the budget allows.
+// The pixels of the command under way, as many as the budget allows; one where its count says that none is left.
 fn visit_up_to(e: Engine, extent: Extent, budget: u64, display: &mut [u8], virt: &mut [u8]) -> Burst
     requires { ⌜ (e .«under_way» ≡ true) × (0 < budget) ⌝ }
     ensures { λ r. ⌜ VisitsDone budget extent (scene e (now (display .entry)) (now (virt .entry))) (r .steps) (scene (r .engine) (now (display .exit)) (now (virt .exit))) ⌝ }
 {
     let count = e.count(extent);
-    let left = pixels_left(count, e.visited);
-    let n = least(budget, left);
+    let left = max(1, saturating_sub(count, e.visited as usize));
+    let n = min(budget as usize, left);
     Burst {
-        engine: visit_counted(e, extent, count, n as usize, display, virt),
-        steps: n,
+        engine: visit_counted(e, extent, count, n, display, virt),
+        steps: n as u64,
     }
 }
 

@@ -1,7 +1,6 @@
 // Many pixels of one command visited at once: rows of a blit, the stroke of a line.
 ghost use mathlib.Core.Path.{_≡_};
 ghost use mathlib.Core.Bool.{true};
-ghost use Prim.Native.Nat.{_-_};
 ghost use lib.ListN.{length};
 ghost use Rattle.commands.specs.Visits.{countOf};
 ghost use Rattle.commands.specs.Steps.{scene, visitsOf};
@@ -15,6 +14,7 @@ use entries::command_of;
 use entries::pattern_control_of;
 use geometry::Extent;
 use geometry::window_of;
+use numbers::saturating_sub;
 use raster::Pen;
 use raster::Selectors;
 use registers::Pattern;
@@ -105,7 +105,7 @@ fn moved_by(e: Engine, extent: Extent, count: usize, n: usize, p: Pattern) -> En
     ensures { λ r. ⌜ r ≡ movedBy extent e n p ⌝ }
 {
     let g = e.registers;
-    if n < less(count, e.visited as usize) {
+    if n < saturating_sub(count, e.visited as usize) {
         return Engine {
             under_way: true,
             visited: e.visited + n as u32,
@@ -123,20 +123,13 @@ fn moved_by(e: Engine, extent: Extent, count: usize, n: usize, p: Pattern) -> En
     }
 }
 
-// a - b, or 0.
-fn less(a: usize, b: usize) -> usize
-    ensures { λ r. ⌜ r ≡ a - b ⌝ }
-{
-    if a <= b { 0 } else { a - b }
-}
-
 // Whether n pixels of `count`, no more than are left, can be visited at once on these buffers.
 fn can_leap(e: Engine, extent: Extent, count: usize, n: usize, display: usize, virt: usize) -> bool
     requires { ⌜ count ≡ countOf extent e ⌝ }
     ensures { λ r. ⌜ r ≡ canLeap extent e n display virt ⌝ }
 {
     let area = (extent.width as usize) * (extent.height as usize);
-    let left = less(count, e.visited as usize);
+    let left = saturating_sub(count, e.visited as usize);
     e.under_way & (0 < left) & (n <= left) & (display == area) & (virt == area)
 }
 

@@ -1,20 +1,13 @@
 // The span of a list, and what is asked of its entries together.
 ghost use mathlib.Core.Path.{_≡_};
-ghost use Prim.Native.Nat.{_-_};
 ghost use Rattle.lists.specs.Spans.{endOf, spanOk, isNone, firstIllegal, touches};
 use entries::legal_at;
+use numbers::saturating_sub;
 
 // Start entry and count.
 pub struct Span {
     pub start: u32,
     pub count: u32,
-}
-
-// a - b, or 0.
-fn less(a: usize, b: usize) -> usize
-    ensures { λ r. ⌜ r ≡ a - b ⌝ }
-{
-    if a <= b { 0 } else { a - b }
 }
 
 impl Span {
@@ -44,7 +37,7 @@ impl Span {
         ensures { λ r. ⌜ r ≡ touches self first n ⌝ }
     {
         let end = self.end();
-        let gap = less(self.start as usize, first);
+        let gap = saturating_sub(self.start as usize, first);
         (first < end) & (gap < n)
     }
 }

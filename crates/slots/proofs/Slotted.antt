@@ -1,21 +1,20 @@
 -- What a well formed slot says, and slots that are well formed.
 -- Assumes nothing.
-use mathlib.Core.Path.{_≡_, refl, ap, sym, _∙_}
-use mathlib.Core.Bool.{Bool, true, false, cond, _&&_}
+use mathlib.Core.Path.{_≡_, refl, sym, _∙_}
+use mathlib.Core.Bool.{Bool, true, false, _&&_}
 use mathlib.Core.List.{List, []}
-use Prim.Native.Nat.{ℕ, _+_, _≤_, _<_}
+use Prim.Native.Nat.{ℕ, _≤_, _<_}
 use native.Mathlib.Omega.{arith}
 use borrow.Author.Tests.{eqb-true, leb-true, leb-false, le-leb, lt-leb, ltb-true, lt-ltb}
 use lib.Dec.{eqb, leb, ltb}
 use Rattle.lemmas.proofs.Booleans.{by-cases, both, and-left, and-right, first-of, second-of}
-use Rattle.entries.specs.declared.decoding.Entry.{Entry}
-use Rattle.lists.specs.Spans.{spanOf, endOf, spanOk, noSpan, isNone}
-use Rattle.lists.specs.Cursors.{cursorOn, cursorOk, fetchedOf, endedOf, restOf}
+use Rattle.lists.specs.Spans.{endOf, spanOk, isNone}
+use Rattle.lists.specs.Cursors.{cursorOn, cursorOk, endedOf, restOf}
 use Rattle.lists.specs.declared.spans.Span.{Span}
 use Rattle.lists.specs.declared.cursors.Cursor.{Cursor}
 use Rattle.lists.proofs.Rests.{rest-end}
 use Rattle.slots.specs.declared.record.Sizes.{Sizes}
-use Rattle.slots.specs.Slots.{sizesOk, slotWith, emptySlot, activeOn, slotOf, slotOk, activeOk}
+use Rattle.slots.specs.Slots.{sizesOk, activeOn, slotOk, activeOk}
 use Rattle.slots.specs.declared.record.Slot.{Slot}
 use Rattle.slots.specs.declared.record.Active.{Active}
 

@@ -1,10 +1,10 @@
 -- What post, store and window write answer of a well formed record with these sizes, active and pending slot (01, What the host
 -- hears): each call's refusals in the order of their numbers, but for 1.
 use mathlib.Core.Bool.{Bool, cond, _&&_, _||_}
-use mathlib.Core.List.{List, _++_}
+use mathlib.Core.List.{List}
 use Prim.Native.Nat.{ℕ, _+_, _*_, _/_, _%_}
-use lib.Dec.{eqb, leb, ltb}
-use lib.ListN.{length, take, drop}
+use lib.Dec.{eqb, leb}
+use lib.ListN.{length}
 use Rattle.lemmas.specs.Memory.{putInto}
 use Rattle.answers.specs.Reports.{Report, report, reportOf}
 use Rattle.answers.specs.declared.Status.{Status}

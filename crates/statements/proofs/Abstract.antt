@@ -1,9 +1,9 @@
 -- The paper board that a board with its memories stands for, and that each step of the one is a step of the other.
 -- Assumes nothing.
-use mathlib.Core.Path.{_≡_, refl, ap, ap₂, sym, subst, _∙_}
+use mathlib.Core.Path.{_≡_, refl, ap, sym, subst, _∙_}
 use mathlib.Core.Bool.{Bool, true, false, cond}
 use mathlib.Core.List.{List, [], _∷_, _++_, append-nil}
-use Prim.Native.Nat.{ℕ, zero, suc, _+_, _*_, _/_}
+use Prim.Native.Nat.{ℕ, zero, suc, _+_, _*_}
 use native.Mathlib.Numerals.{add-one}
 use native.Mathlib.Omega.{arith}
 use lib.ListN.{length}
@@ -28,7 +28,7 @@ use Rattle.board.specs.Runs.{Outcome, added, byNext, runOf}
 use Rattle.board.specs.Left.{toCome}
 use Rattle.board.specs.declared.record.Board.{Board}
 use Rattle.board.proofs.Forms.{Good, good-of, active-of}
-use Rattle.board.proofs.Keeps.{followed, holds-list, stays-well-formed, step-lengths, settled-sizes, settled-engine}
+use Rattle.board.proofs.Keeps.{followed, holds-list, stays-well-formed, step-lengths, settled-sizes}
 use Rattle.board.proofs.Counts.{settled-to-come}
 use Rattle.statements.specs.Paper.{Item, posted, Paper, paper, flushed, leaving, fetching, stepBy, stepOn, stepsOn, queued}
 use Rattle.statements.specs.World.{World, world}

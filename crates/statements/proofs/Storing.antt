@@ -1,7 +1,7 @@
 -- A store does to the board what feeding it does to the paper board.
 -- Assumes nothing.
 use mathlib.Core.Path.{_≡_, refl, ap₂, sym, subst, _∙_}
-use mathlib.Core.Bool.{Bool, true, false, cond, _&&_, _||_}
+use mathlib.Core.Bool.{true, false, cond, _&&_, _||_}
 use mathlib.Core.List.{List, [], _∷_, _++_}
 use Prim.Native.Nat.{ℕ, _+_, _*_, _/_, _%_, _≤_}
 use native.Mathlib.Omega.{arith}
@@ -15,7 +15,6 @@ use Rattle.answers.specs.Reports.{report}
 use Rattle.entries.specs.declared.decoding.Entry.{Entry}
 use Rattle.lists.specs.Spans.{touches}
 use Rattle.lists.specs.Cursors.{cursorOn, restOf, AllLegal}
-use Rattle.lists.specs.declared.cursors.Cursor.{Cursor}
 use Rattle.lists.proofs.Held.{untouched-stays}
 use Rattle.commands.specs.Steps.{scene}
 use Rattle.slots.specs.Slots.{activeOn, slotOf}

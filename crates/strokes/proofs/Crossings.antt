@@ -12,8 +12,8 @@ use Rattle.geometry.specs.declared.Point.{Point}
 use Rattle.geometry.specs.declared.Window.{Window}
 use Rattle.geometry.proofs.Lines.{Near, near, below, le-of-not-lt, parts, from-a-to-b}
 use Rattle.geometry.proofs.Windows.{shown-of, shown-by}
-use Rattle.strokes.specs.Spans.{Counts, Below, AtLeast, Spans, Visible}
-use Rattle.strokes.specs.declared.spans.Span.{Span}
+use Rattle.strokes.specs.Ranges.{Counts, Below, AtLeast, Ranges, Visible}
+use Rattle.strokes.specs.declared.ranges.Range.{Range}
 use Rattle.strokes.proofs.Between.{between}
 use Rattle.strokes.proofs.Terms.{nearest-below}
 
@@ -105,8 +105,8 @@ module _ (n a b c : ℕ) (some : 0 < n) (down : b ≤ a) where
       }
 
 module _ (n a b low high start end : ℕ) where
-  pub spans-up : Below n a b low start → Below n a b high end → Spans n a b low high (record { start = start; end = end })
-  spans-up p q =
+  pub ranges-up : Below n a b low start → Below n a b high end → Ranges n a b low high (record { start = start; end = end })
+  ranges-up p q =
       record {
         inside = λ i h l g. (p .after i h l, q .before i h g);
         only =
@@ -116,8 +116,8 @@ module _ (n a b low high start end : ℕ) where
             );
       }
 
-  pub spans-down : AtLeast n a b high start → AtLeast n a b low end → Spans n a b low high (record { start = start; end = end })
-  spans-down p q =
+  pub ranges-down : AtLeast n a b high start → AtLeast n a b low end → Ranges n a b low high (record { start = start; end = end })
+  ranges-down p q =
       record {
         inside = λ i h l g. (q .before i h g, p .after i h l);
         only =
@@ -161,8 +161,8 @@ first-most f x y = omega arith
 last-least : (f x y : ℕ) → min (min f x) y ≤ f
 last-least f x y = omega arith
 
-visible-part : (w : Window) (a b : Point) (first n : ℕ) (x y : Span) → first + n ≤ stepsOf a b + 1
-    → Spans (stepsOf a b) (a .x) (b .x) (w .left) (w .right) x → Spans (stepsOf a b) (a .y) (b .y) (w .top) (w .bottom) y
+visible-part : (w : Window) (a b : Point) (first n : ℕ) (x y : Range) → first + n ≤ stepsOf a b + 1
+    → Ranges (stepsOf a b) (a .x) (b .x) (w .left) (w .right) x → Ranges (stepsOf a b) (a .y) (b .y) (w .top) (w .bottom) y
     → Visible w a b first n
     (record { start = max (max first (x .start)) (y .start); end = min (min (first + n) (x .end)) (y .end) })
 visible-part w a b first n x y l p q =
@@ -185,19 +185,19 @@ visible-part w a b first n x y l p q =
           (q .only i on (s .from-top) (s .to-bottom));
     }
 
-pub visible-by : (w : Window) (a b p q : Point) (first n steps : ℕ) (x y : Span) (s₁ s₂ e₁ e₂ : ℕ) → first + n ≤ stepsOf a b + 1
-    → p ≡ a → q ≡ b → steps ≡ stepsOf a b → Spans steps (p .x) (q .x) (w .left) (w .right) x → Spans steps (p .y) (q .y) (w .top) (w .bottom) y
+pub visible-by : (w : Window) (a b p q : Point) (first n steps : ℕ) (x y : Range) (s₁ s₂ e₁ e₂ : ℕ) → first + n ≤ stepsOf a b + 1
+    → p ≡ a → q ≡ b → steps ≡ stepsOf a b → Ranges steps (p .x) (q .x) (w .left) (w .right) x → Ranges steps (p .y) (q .y) (w .top) (w .bottom) y
     → s₁ ≡ max first (x .start) → s₂ ≡ max s₁ (y .start) → e₁ ≡ min (first + n) (x .end) → e₂ ≡ min e₁ (y .end)
     → Visible w a b first n (record { start = s₂; end = e₂ })
 visible-by w a b p q first n steps x y s₁ s₂ e₁ e₂ l e f g u v h i j k =
     rw (i, h, k, j) (visible-part w a b first n x y l (rw (e, f, g) at u) (rw (e, f, g) at v))
 
 -- a line that lies left or right of the window
-pub hidden-beside : (w : Window) (a b p q : Point) (first n steps : ℕ) (x : Span) → first + n ≤ stepsOf a b + 1
-    → p ≡ a → q ≡ b → steps ≡ stepsOf a b → Spans steps (p .x) (q .x) (w .left) (w .right) x → x .end ≤ x .start
+pub hidden-beside : (w : Window) (a b p q : Point) (first n steps : ℕ) (x : Range) → first + n ≤ stepsOf a b + 1
+    → p ≡ a → q ≡ b → steps ≡ stepsOf a b → Ranges steps (p .x) (q .x) (w .left) (w .right) x → x .end ≤ x .start
     → Visible w a b first n (record { start = first; end = first })
 hidden-beside w a b p q first n steps x l e f g u none =
-    let spans = rw (e, f, g) at u in
+    let ranges = rw (e, f, g) at u in
     record {
       from-first = omega arith;
       to-last = omega arith;
@@ -206,7 +206,7 @@ hidden-beside w a b p q first n steps x l e f g u none =
           λ i h k t.
           let on = short i (first + n) (stepsOf a b) k l in
           let s = shown-of w (linePoint a b i) t in
-          let within = spans .only i on (s .from-left) (s .to-right) in
+          let within = ranges .only i on (s .from-left) (s .to-right) in
           absurd (omega (arith, within, none));
     }
 

@@ -22,9 +22,9 @@ use Rattle.strokes.specs.Strokes.{windowFits, strokeFits, plotted, pixel
 use Rattle.lemmas.specs.Turns.{inTurn}
 use Rattle.strokes.specs.Tracers.{pointOn, Traces, tracerAfter}
 use Rattle.strokes.specs.Bresenham.{plotOn, plotDashOn, Stretch}
-use Rattle.strokes.specs.Spans.{Visible}
+use Rattle.strokes.specs.Ranges.{Visible}
 use Rattle.strokes.specs.declared.Dashes.{Dashes}
-use Rattle.strokes.specs.declared.spans.Span.{Span}
+use Rattle.strokes.specs.declared.ranges.Range.{Range}
 use Rattle.strokes.specs.declared.tracers.Tracer.{Tracer}
 use Rattle.lemmas.proofs.Turns.{turn-agree, turn-join, turn-idle}
 use Rattle.strokes.proofs.Traced.{traces-run, pixel, pixels-in-turn, dashes-in-turn}
@@ -68,7 +68,7 @@ turn-parts f same s n p m q all idle =
     ∙ ap (λ (k : ℕ). inTurn f k s) (omega (arith, all))
 
 -- what is visible of n pixels
-module _ (w : Window) (a b : Point) (first n : ℕ) (s : Span) (visible : Visible w a b first n s) where
+module _ (w : Window) (a b : Point) (first n : ℕ) (s : Range) (visible : Visible w a b first n s) where
   hidden : (k : ℕ) → k < n → (s .start ≤ first + k → s .end ≤ first + k) → inWindow w (linePoint a b (first + k)) ≡ false
   hidden k h out =
       not-visible (inWindow w (linePoint a b (first + k)))
@@ -150,7 +150,7 @@ major-of a b i t o =
     (λ e. inl (omega (arith, o .full-is, o .along-x .grows, leb-true (distance (a .y) (b .y)) (distance (a .x) (b .x)) e)))
     (λ e. inr (omega (arith, o .full-is, o .along-y .grows, leb-false (distance (a .y) (b .y)) (distance (a .x) (b .x)) e)))
 
-pub stretch-of : (width long : ℕ) (w : Window) (u v first n : ℕ) (s : Span) (t : Tracer) → Fit width w (pointOf u) (pointOf v) first n long
+pub stretch-of : (width long : ℕ) (w : Window) (u v first n : ℕ) (s : Range) (t : Tracer) → Fit width w (pointOf u) (pointOf v) first n long
     → Visible w (pointOf u) (pointOf v) first n s → s .start < s .end → Traces (pointOf u) (pointOf v) (s .start) t
     → Stretch width t (s .end - s .start) long
 stretch-of width long w u v first n s t fit visible more o =
@@ -164,7 +164,7 @@ stretch-of width long w u v first n s t fit visible more o =
           λ k g. placed width w long (pointOn (tracerAfter t k)) (fit .window-in) (all-visible w a b first n s visible t (fit .steps-in) (fit .pixels-in) more o k g);
     }
 
-pub start-in : (w : Window) (a b : Point) (first n : ℕ) (s : Span) → Visible w a b first n s → first + n ≤ stepsOf a b + 1 → s .start < s .end
+pub start-in : (w : Window) (a b : Point) (first n : ℕ) (s : Range) → Visible w a b first n s → first + n ≤ stepsOf a b + 1 → s .start < s .end
     → s .start ≤ stepsOf a b
 start-in w a b first n s visible l more = let high = visible .to-last in omega arith
 

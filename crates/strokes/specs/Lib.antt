@@ -1,5 +1,5 @@
 pub mod Strokes
 pub mod Tracers
 pub mod Bresenham
-pub mod Spans
+pub mod Ranges
 pub mod Phases

@@ -6,12 +6,12 @@ ghost use Rattle.strokes.specs.Strokes.{windowFits, strokeFits, strokeOf
 
 mod bresenham;
 mod phases;
-mod spans;
+mod ranges;
 mod tracers;
 
 use crate::bresenham::dash_visible;
 use crate::bresenham::draw_visible;
-use crate::spans::visible_span;
+use crate::ranges::visible_range;
 use crate::tracers::tracer_at;
 use entries::PatternControl;
 use geometry::ORIGIN;
@@ -86,7 +86,7 @@ pub fn draw_line(
     if !stroke_fits(width, window, from, to, first, n, buffer.len()) {
         return;
     }
-    let visible = visible_span(window, from, to, first, n);
+    let visible = visible_range(window, from, to, first, n);
     if visible.end <= visible.start {
         return;
     }
@@ -112,7 +112,7 @@ pub fn draw_dashes(
         return start;
     }
     let control = dashes.control;
-    let visible = visible_span(window, from, to, first, n);
+    let visible = visible_range(window, from, to, first, n);
     if visible.end <= visible.start {
         return start.after(control, n as u32);
     }

@@ -15,13 +15,13 @@ distance-of-requires c κs = search needs
 distance-of-requires-2 : tie.Need-distance-of-requires-2
 distance-of-requires-2 c κs = search needs
 
-larger-requires : tie.Need-larger-requires
-larger-requires c κs = search needs
+max-requires : tie.Need-max-requires
+max-requires c κs = search needs
 
 returns : tie.Need-returns
 returns c =
     let ends = c .before .before .before in
-    c .larger .ensures ∙ rw (c .before .before .distance-of .ensures, c .before .distance-of2 .ensures, ends .before .point-of .ensures, ends .point-of2 .ensures)
+    c .max .ensures ∙ rw (c .before .before .distance-of .ensures, c .before .distance-of2 .ensures, ends .before .point-of .ensures, ends .point-of2 .ensures)
 
 pub line-steps-spec : {M : Type 1} → statement M
 line-steps-spec =
@@ -31,5 +31,5 @@ line-steps-spec =
     point-of-requires-2
     distance-of-requires
     distance-of-requires-2
-    larger-requires
+    max-requires
     returns)

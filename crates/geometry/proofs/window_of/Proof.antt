@@ -20,29 +20,29 @@ add-bottom c = search needs
 rect-of-requires : tie.Need-rect-of-requires
 rect-of-requires c κs = search needs
 
-larger-requires : tie.Need-larger-requires
-larger-requires c κs = search needs
+max-requires : tie.Need-max-requires
+max-requires c κs = search needs
 
-add-smaller : tie.Need-add-smaller
-add-smaller c =
+add-min : tie.Need-add-min
+add-min c =
     let cut = c .before .before in
     let s = cut .before .before .before .before .args in
     rw (cut .rect-of .ensures) (omega (arith, right-most (s .top-left) (s .bottom-right)))
 
-smaller-requires : tie.Need-smaller-requires
-smaller-requires c κs = search needs
+min-requires : tie.Need-min-requires
+min-requires c κs = search needs
 
-larger-requires-2 : tie.Need-larger-requires-2
-larger-requires-2 c κs = search needs
+max-requires-2 : tie.Need-max-requires-2
+max-requires-2 c κs = search needs
 
-add-smaller-2 : tie.Need-add-smaller-2
-add-smaller-2 c =
+add-min-2 : tie.Need-add-min-2
+add-min-2 c =
     let cut = c .before .before .before .before .before in
     let s = cut .before .before .before .before .args in
     rw (cut .rect-of .ensures) (omega (arith, bottom-most (s .top-left) (s .bottom-right)))
 
-smaller-requires-2 : tie.Need-smaller-requires-2
-smaller-requires-2 c κs = search needs
+min-requires-2 : tie.Need-min-requires-2
+min-requires-2 c κs = search needs
 
 returns : tie.Need-returns
 unfolding windowOf
@@ -51,10 +51,10 @@ returns c =
     let side = low .before .before .before in
     let cut = side .before in
     rw (
-      c .smaller2 .ensures,
-      low .larger2 .ensures,
-      low .before .smaller .ensures,
-      side .larger .ensures,
+      c .min2 .ensures,
+      low .max2 .ensures,
+      low .before .min .ensures,
+      side .max .ensures,
       cut .rect-of .ensures,
       cut .before .if1 .taken,
     )
@@ -72,11 +72,11 @@ window-of-spec =
     cast-bottom
     add-bottom
     rect-of-requires
-    larger-requires
-    add-smaller
-    smaller-requires
-    larger-requires-2
-    add-smaller-2
-    smaller-requires-2
+    max-requires
+    add-min
+    min-requires
+    max-requires-2
+    add-min-2
+    min-requires-2
     returns
     returns-2)

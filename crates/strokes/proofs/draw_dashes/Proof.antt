@@ -29,8 +29,8 @@ stroke-fits-requires c κs = search needs
 returns : tie.Need-returns
 returns c = dashes-unfit _ _ _ _ _ _ _ _ (sym (c .before .stroke-fits .ensures) ∙ not-true _ (c .if1 .taken))
 
-visible-span-requires : tie.Need-visible-span-requires
-visible-span-requires c κs = (fit (c .before) .steps-in, fit (c .before) .pixels-in)
+visible-range-requires : tie.Need-visible-range-requires
+visible-range-requires c κs = (fit (c .before) .steps-in, fit (c .before) .pixels-in)
 
 cast-after : tie.Need-cast-after
 cast-after c = omega (arith, few (c .before .before .before .before))
@@ -42,7 +42,7 @@ returns-2 : tie.Need-returns-2
 returns-2 c =
     let t = c .before in
     let q = t .before .before in
-    dashes-fit _ _ _ _ _ _ _ _ _ (fit (q .before .before) .whole) (hidden-dashes _ _ _ _ _ _ (q .visible-span .ensures) _ _ _ _ (t .if2 .taken) (c .after .ensures))
+    dashes-fit _ _ _ _ _ _ _ _ _ (fit (q .before .before) .whole) (hidden-dashes _ _ _ _ _ _ (q .visible-range .ensures) _ _ _ _ (t .if2 .taken) (c .after .ensures))
 
 sub-after : tie.Need-sub-after
 sub-after c = search needs
@@ -50,7 +50,7 @@ sub-after c = search needs
 cast-after-2 : tie.Need-cast-after-2
 cast-after-2 c =
     let q = c .before .before .before in
-    omega (arith, few (q .before .before), q .visible-span .ensures .to-last, c .before .if2 .left)
+    omega (arith, few (q .before .before), q .visible-range .ensures .to-last, c .before .if2 .left)
 
 after-requires-2 : tie.Need-after-requires-2
 after-requires-2 c κs = search needs
@@ -60,7 +60,7 @@ tracer-at-requires c κs =
     let e = c .before .before in
     let q = e .before .before in
     let f = fit (q .before .before) in
-    (f .steps-in, start-in _ _ _ _ _ _ (q .visible-span .ensures) (f .pixels-in) (e .if2 .left))
+    (f .steps-in, start-in _ _ _ _ _ _ (q .visible-range .ensures) (f .pixels-in) (e .if2 .left))
 
 sub-dash-visible : tie.Need-sub-dash-visible
 sub-dash-visible c = search needs
@@ -70,7 +70,7 @@ dash-visible-requires c κs =
     let t = c .before .before in
     let e = t .before .before .before in
     let q = e .before .before in
-    stretch-of _ _ _ _ _ _ _ _ _ (fit (q .before .before)) (q .visible-span .ensures) (e .if2 .left) (t .tracer-at .ensures)
+    stretch-of _ _ _ _ _ _ _ _ _ (fit (q .before .before)) (q .visible-range .ensures) (e .if2 .left) (t .tracer-at .ensures)
 
 add-after : tie.Need-add-after
 add-after c =
@@ -100,7 +100,7 @@ returns-3 c =
     let q = e .before .before in
     let f = fit (q .before .before) in
     dashes-fit _ _ _ _ _ _ _ _ _ (f .whole)
-    (visible-dashes _ _ _ _ _ _ (q .visible-span .ensures) _ (f .steps-in) (f .pixels-in) (e .if2 .left) (t .tracer-at .ensures) _ _ _ _ _ _
+    (visible-dashes _ _ _ _ _ _ (q .visible-range .ensures) _ (f .steps-in) (f .pixels-in) (e .if2 .left) (t .tracer-at .ensures) _ _ _ _ _ _
     (m .after2 .ensures) (d .dash-visible .ensures) (c .after3 .ensures))
 
 pub draw-dashes-spec : {M : Type 1} → statement M
@@ -109,7 +109,7 @@ draw-dashes-spec =
     (tie.spec
     stroke-fits-requires
     returns
-    visible-span-requires
+    visible-range-requires
     cast-after
     after-requires
     returns-2

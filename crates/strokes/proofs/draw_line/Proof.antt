@@ -22,19 +22,19 @@ stroke-fits-requires c κs = search needs
 returns : tie.Need-returns
 returns c = stroke-unfit _ _ _ _ _ _ _ _ (sym (c .before .stroke-fits .ensures) ∙ not-true _ (c .if1 .taken))
 
-visible-span-requires : tie.Need-visible-span-requires
-visible-span-requires c κs = (fit c .steps-in, fit c .pixels-in)
+visible-range-requires : tie.Need-visible-range-requires
+visible-range-requires c κs = (fit c .steps-in, fit c .pixels-in)
 
 returns-2 : tie.Need-returns-2
 returns-2 c =
     let q = c .before .before in
-    stroke-fit _ _ _ _ _ _ _ _ _ (fit (q .before) .whole) (hidden-pixels _ _ _ _ _ _ (q .visible-span .ensures) _ _ _ (c .if2 .taken))
+    stroke-fit _ _ _ _ _ _ _ _ _ (fit (q .before) .whole) (hidden-pixels _ _ _ _ _ _ (q .visible-range .ensures) _ _ _ (c .if2 .taken))
 
 tracer-at-requires : tie.Need-tracer-at-requires
 tracer-at-requires c κs =
     let q = c .before .before in
     let f = fit (q .before) in
-    (f .steps-in, start-in _ _ _ _ _ _ (q .visible-span .ensures) (f .pixels-in) (c .if2 .left))
+    (f .steps-in, start-in _ _ _ _ _ _ (q .visible-range .ensures) (f .pixels-in) (c .if2 .left))
 
 sub-draw-visible : tie.Need-sub-draw-visible
 sub-draw-visible c = search needs
@@ -44,7 +44,7 @@ draw-visible-requires c κs =
     let t = c .before .before in
     let e = t .before in
     let q = e .before .before in
-    stretch-of _ _ _ _ _ _ _ _ _ (fit (q .before)) (q .visible-span .ensures) (e .if2 .left) (t .tracer-at .ensures)
+    stretch-of _ _ _ _ _ _ _ _ _ (fit (q .before)) (q .visible-range .ensures) (e .if2 .left) (t .tracer-at .ensures)
 
 same-length : tie.Need-same-length
 same-length c = search needs
@@ -57,7 +57,7 @@ returns-3 c =
     let q = e .before .before in
     let f = fit (q .before) in
     stroke-fit _ _ _ _ _ _ _ _ _ (f .whole)
-    (visible-pixels _ _ _ _ _ _ (q .visible-span .ensures) _ (f .steps-in) (f .pixels-in) (e .if2 .left) (t .tracer-at .ensures) _ _ _ _ (d .draw-visible .ensures))
+    (visible-pixels _ _ _ _ _ _ (q .visible-range .ensures) _ (f .steps-in) (f .pixels-in) (e .if2 .left) (t .tracer-at .ensures) _ _ _ _ (d .draw-visible .ensures))
 
 pub draw-line-spec : {M : Type 1} → statement M
 draw-line-spec =
@@ -65,7 +65,7 @@ draw-line-spec =
     (tie.spec
     stroke-fits-requires
     returns
-    visible-span-requires
+    visible-range-requires
     returns-2
     tracer-at-requires
     sub-draw-visible

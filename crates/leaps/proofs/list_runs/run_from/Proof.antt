@@ -11,11 +11,6 @@ use mathlib.Core.Path.{refl, sym, _∙_}
 use borrow.Author.Needs.{needs}
 use Rattle.leaps.proofs.list_runs.run_from.Statement.{statement}
 use Rattle.leaps.proofs.list_runs.run_from.Tie as tie
-use Rattle.leaps.proofs.list_runs.run_from.Reads as reads
-use Rattle.leaps.proofs.list_runs.run_from.Lts as lts
-use Rattle.commands.proofs.Engine.take.Reads as take-reads
-use Rattle.leaps.proofs.list_runs.visit_up_to.Reads as visit-up-to-reads
-use Rattle.lists.proofs.next_of.Reads as next-of-reads
 
 abbrev Inv-loop : tie.InvT-loop
 Inv-loop extent budget list display₀ virt₀ e₀ c₀ k₀ display virt e c k =

@@ -5,10 +5,6 @@ use mathlib.Core.Path.{_∙_}
 use borrow.Author.Needs.{needs}
 use Rattle.leaps.proofs.list_runs.run_list.Statement.{statement}
 use Rattle.leaps.proofs.list_runs.run_list.Tie as tie
-use Rattle.leaps.proofs.list_runs.run_list.Reads as reads
-use Rattle.leaps.proofs.list_runs.run_list.Lts as lts
-use Rattle.leaps.proofs.list_runs.run_from.Reads as run-from-reads
-use Rattle.lists.proofs.spans.Span.end.Reads as end-reads
 
 end-requires : tie.Need-end-requires
 end-requires c κs = search needs

@@ -4,9 +4,6 @@ use native.Mathlib.Omega.{arith}
 use borrow.Author.Needs.{needs}
 use Rattle.leaps.proofs.visits.can_leap.Statement.{statement}
 use Rattle.leaps.proofs.visits.can_leap.Tie as tie
-use Rattle.leaps.proofs.visits.can_leap.Reads as reads
-use Rattle.leaps.proofs.visits.can_leap.Lts as lts
-use Rattle.leaps.proofs.visits.less.Reads as less-reads
 
 cast-area : tie.Need-cast-area
 cast-area c = search needs
@@ -17,15 +14,15 @@ cast-area-2 c = search needs
 mul-area : tie.Need-mul-area
 mul-area c = let s = c .before .before .args in omega (arith, product-fits (s .extent .width) (s .extent .height) (search needs) (search needs))
 
-cast-less : tie.Need-cast-less
-cast-less c = search needs
+cast-saturating-sub : tie.Need-cast-saturating-sub
+cast-saturating-sub c = search needs
 
-less-requires : tie.Need-less-requires
-less-requires c κs = search needs
+saturating-sub-requires : tie.Need-saturating-sub-requires
+saturating-sub-requires c κs = search needs
 
 returns : tie.Need-returns
 unfolding canLeap
-returns c = let low = c .before in rw (low .less .ensures, low .before .before .before .before .pre)
+returns c = let low = c .before in rw (low .saturating-sub .ensures, low .before .before .before .before .pre)
 
 pub can-leap-spec : {M : Type 1} → statement M
-can-leap-spec = tie.close (tie.spec cast-area cast-area-2 mul-area cast-less less-requires returns)
+can-leap-spec = tie.close (tie.spec cast-area cast-area-2 mul-area cast-saturating-sub saturating-sub-requires returns)

@@ -2,15 +2,6 @@ use Rattle.leaps.specs.Leaps.{goesByRows, goesByStroke}
 use borrow.Author.Needs.{needs}
 use Rattle.leaps.proofs.visits.visit_counted.Statement.{statement}
 use Rattle.leaps.proofs.visits.visit_counted.Tie as tie
-use Rattle.leaps.proofs.visits.visit_counted.Reads as reads
-use Rattle.leaps.proofs.visits.visit_counted.Lts as lts
-use Rattle.entries.proofs.fields.Command.is_blit.Reads as is-blit-reads
-use Rattle.entries.proofs.fields.Command.is_line.Reads as is-line-reads
-use Rattle.entries.proofs.command_of.Reads as command-of-reads
-use Rattle.leaps.proofs.visits.can_leap.Reads as can-leap-reads
-use Rattle.leaps.proofs.visits.visit_each.Reads as visit-each-reads
-use Rattle.leaps.proofs.visits.visit_rows.Reads as visit-rows-reads
-use Rattle.leaps.proofs.visits.visit_stroke.Reads as visit-stroke-reads
 
 command-of-requires : tie.Need-command-of-requires
 command-of-requires c κs = search needs

@@ -1,11 +1,6 @@
 use borrow.Author.Needs.{needs}
 use Rattle.pramolyt.proofs.image.decode.Statement.{statement}
 use Rattle.pramolyt.proofs.image.decode.Tie as tie
-use Rattle.pramolyt.proofs.image.decode.Reads as reads
-use Rattle.pramolyt.proofs.image.decode.Lts as lts
-use Rattle.pramolyt.proofs.image.engine_in.Reads as engine-in-reads
-use Rattle.pramolyt.proofs.image.sizes_in.Reads as sizes-in-reads
-use Rattle.pramolyt.proofs.image.slot_in.Reads as slot-in-reads
 
 sizes-in-requires : tie.Need-sizes-in-requires
 sizes-in-requires c κs = search needs

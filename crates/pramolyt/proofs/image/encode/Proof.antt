@@ -1,13 +1,6 @@
 use borrow.Author.Needs.{needs}
 use Rattle.pramolyt.proofs.image.encode.Statement.{statement}
 use Rattle.pramolyt.proofs.image.encode.Tie as tie
-use Rattle.pramolyt.proofs.image.encode.Reads as reads
-use Rattle.pramolyt.proofs.image.encode.Lts as lts
-use Rattle.pramolyt.proofs.image.put_command.Reads as put-command-reads
-use Rattle.pramolyt.proofs.image.put_registers.Reads as put-registers-reads
-use Rattle.pramolyt.proofs.image.put_sizes.Reads as put-sizes-reads
-use Rattle.pramolyt.proofs.image.put_slot.Reads as put-slot-reads
-use Rattle.slots.proofs.record.Active.slot.Reads as slot-reads
 
 put-sizes-requires : tie.Need-put-sizes-requires
 put-sizes-requires c κs = search needs

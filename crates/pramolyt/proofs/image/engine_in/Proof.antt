@@ -1,10 +1,6 @@
 use borrow.Author.Needs.{needs}
 use Rattle.pramolyt.proofs.image.engine_in.Statement.{statement}
 use Rattle.pramolyt.proofs.image.engine_in.Tie as tie
-use Rattle.pramolyt.proofs.image.engine_in.Reads as reads
-use Rattle.pramolyt.proofs.image.engine_in.Lts as lts
-use Rattle.pramolyt.proofs.image.pattern_in.Reads as pattern-in-reads
-use Rattle.pramolyt.proofs.image.registers_in.Reads as registers-in-reads
 
 registers-in-requires : tie.Need-registers-in-requires
 registers-in-requires c κs = search needs

@@ -1,9 +1,6 @@
 use borrow.Author.Needs.{needs}
 use Rattle.pramolyt.proofs.image.put_command.Statement.{statement}
 use Rattle.pramolyt.proofs.image.put_command.Tie as tie
-use Rattle.pramolyt.proofs.image.put_command.Reads as reads
-use Rattle.pramolyt.proofs.image.put_command.Lts as lts
-use Rattle.pramolyt.proofs.image.flag.Reads as flag-reads
 
 flag-requires : tie.Need-flag-requires
 flag-requires c κs = search needs

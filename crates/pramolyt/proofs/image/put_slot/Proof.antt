@@ -4,9 +4,6 @@ use mathlib.Core.Path.{_≡_}
 use borrow.Author.Needs.{needs}
 use Rattle.pramolyt.proofs.image.put_slot.Statement.{statement}
 use Rattle.pramolyt.proofs.image.put_slot.Tie as tie
-use Rattle.pramolyt.proofs.image.put_slot.Reads as reads
-use Rattle.pramolyt.proofs.image.put_slot.Lts as lts
-use Rattle.pramolyt.proofs.image.flag.Reads as flag-reads
 
 flag-requires : tie.Need-flag-requires
 flag-requires c κs = search needs

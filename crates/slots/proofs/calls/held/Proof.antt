@@ -3,9 +3,6 @@ use mathlib.Core.Path.{ap}
 use borrow.Author.Needs.{needs}
 use Rattle.slots.proofs.calls.held.Statement.{statement}
 use Rattle.slots.proofs.calls.held.Tie as tie
-use Rattle.slots.proofs.calls.held.Reads as reads
-use Rattle.slots.proofs.calls.held.Lts as lts
-use Rattle.lists.proofs.spans.Span.touches.Reads as touches-reads
 
 touches-requires : tie.Need-touches-requires
 touches-requires c κs = search needs

@@ -1,13 +1,8 @@
 use Rattle.board.proofs.Goes.{leap-is}
 use Rattle.board.specs.Steps.{machine}
-use mathlib.Core.Path.{ap}
 use borrow.Author.Needs.{needs}
 use Rattle.board.proofs.record.Board.leap.Statement.{statement}
 use Rattle.board.proofs.record.Board.leap.Tie as tie
-use Rattle.board.proofs.record.Board.leap.Reads as reads
-use Rattle.board.proofs.record.Board.leap.Lts as lts
-use Rattle.board.proofs.record.Board.moved.Reads as moved-reads
-use Rattle.leaps.proofs.run_list.Reads as run-list-reads
 
 run-list-requires : tie.Need-run-list-requires
 run-list-requires c κs = search needs

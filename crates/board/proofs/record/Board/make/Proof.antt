@@ -4,9 +4,6 @@ use native.Mathlib.Omega.{arith}
 use borrow.Author.Needs.{needs}
 use Rattle.board.proofs.record.Board.make.Statement.{statement}
 use Rattle.board.proofs.record.Board.make.Tie as tie
-use Rattle.board.proofs.record.Board.make.Reads as reads
-use Rattle.board.proofs.record.Board.make.Lts as lts
-use Rattle.board.proofs.record.Board.fresh.Reads as fresh-reads
 
 limits : (c : tie.Then1) → let s = c .before .args in Limits (sizes (s .width) (s .height) (s .entries))
 limits c =

@@ -11,13 +11,6 @@ use mathlib.Core.Path.{_≡_, ap, sym, _∙_}
 use borrow.Author.Needs.{needs}
 use Rattle.board.proofs.record.Board.post.Statement.{statement}
 use Rattle.board.proofs.record.Board.post.Tie as tie
-use Rattle.board.proofs.record.Board.post.Reads as reads
-use Rattle.board.proofs.record.Board.post.Lts as lts
-use Rattle.answers.proofs.Status.number.Reads as number-reads
-use Rattle.board.proofs.record.Board.posted.Reads as posted-reads
-use Rattle.board.proofs.record.Board.well_formed.Reads as well-formed-reads
-use Rattle.slots.proofs.post_status.Reads as post-status-reads
-use Rattle.slots.proofs.record.Active.slot.Reads as slot-reads
 
 well : (c : tie.Else1) → wellFormed (c .before .before .before .before .before .before .args .self) ≡ true
 well c = sym (c .before .well-formed .ensures) ∙ not-false _ (c .if1 .left)

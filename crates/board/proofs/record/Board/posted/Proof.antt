@@ -3,9 +3,6 @@ use Rattle.lemmas.proofs.Booleans.{first-of, second-of}
 use borrow.Author.Needs.{needs}
 use Rattle.board.proofs.record.Board.posted.Statement.{statement}
 use Rattle.board.proofs.record.Board.posted.Tie as tie
-use Rattle.board.proofs.record.Board.posted.Reads as reads
-use Rattle.board.proofs.record.Board.posted.Lts as lts
-use Rattle.slots.proofs.record.Active.on.Reads as on-reads
 
 returns : tie.Need-returns
 unfolding postedOf

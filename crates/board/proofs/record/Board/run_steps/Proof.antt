@@ -1,21 +1,16 @@
 -- The loop's invariant is `Running`: k steps are done, and the rest of the run is that from here. A turn is a leap, the steps of one
 -- list; the measure is what is left of the budget.
 use Rattle.board.proofs.Goes.{Running, running-start, running-more, running-broken, running-over}
-use Rattle.board.specs.Runs.{Leaped}
 use Rattle.board.specs.Steps.{machine}
 use Rattle.lemmas.proofs.Booleans.{and-left, and-right}
 use borrow.Author.Tests.{ltb-true}
 use native.Mathlib.Omega.{arith}
 use Prim.Native.Nat.{_-_, _<_}
 use mathlib.Core.Bool.{true}
-use mathlib.Core.Path.{_≡_, subst, _∙_}
+use mathlib.Core.Path.{_≡_, _∙_}
 use lib.Dec.{ltb}
-use borrow.Author.Needs.{needs}
 use Rattle.board.proofs.record.Board.run_steps.Statement.{statement}
 use Rattle.board.proofs.record.Board.run_steps.Tie as tie
-use Rattle.board.proofs.record.Board.run_steps.Reads as reads
-use Rattle.board.proofs.record.Board.run_steps.Lts as lts
-use Rattle.board.proofs.record.Board.leap.Reads as leap-reads
 
 abbrev Inv-loop : tie.InvT-loop
 Inv-loop budget list display₀ virt₀ b₀ k₀ display virt b k = Running budget list (machine b₀ display₀ virt₀) k (machine b display virt)

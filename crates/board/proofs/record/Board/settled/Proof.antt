@@ -5,10 +5,6 @@ use mathlib.Core.Path.{sym, _∙_}
 use borrow.Author.Needs.{needs}
 use Rattle.board.proofs.record.Board.settled.Statement.{statement}
 use Rattle.board.proofs.record.Board.settled.Tie as tie
-use Rattle.board.proofs.record.Board.settled.Reads as reads
-use Rattle.board.proofs.record.Board.settled.Lts as lts
-use Rattle.lists.proofs.cursors.Cursor.ended.Reads as ended-reads
-use Rattle.slots.proofs.record.Active.on.Reads as on-reads
 
 ended-requires : tie.Need-ended-requires
 ended-requires c κs = search needs

@@ -7,11 +7,6 @@ use mathlib.Core.Path.{_≡_, ap, sym, _∙_}
 use borrow.Author.Needs.{needs}
 use Rattle.board.proofs.record.Board.store.Statement.{statement}
 use Rattle.board.proofs.record.Board.store.Tie as tie
-use Rattle.board.proofs.record.Board.store.Reads as reads
-use Rattle.board.proofs.record.Board.store.Lts as lts
-use Rattle.board.proofs.record.Board.well_formed.Reads as well-formed-reads
-use Rattle.slots.proofs.store_into.Reads as store-into-reads
-use Rattle.slots.proofs.record.Active.slot.Reads as slot-reads
 
 well : (c : tie.Else1) → wellFormed (c .before .before .before .before .before .before .before .args .self) ≡ true
 well c = sym (c .before .well-formed .ensures) ∙ not-false _ (c .if1 .left)

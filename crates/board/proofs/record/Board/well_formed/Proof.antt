@@ -2,13 +2,6 @@ use Rattle.board.specs.Record.{wellFormed}
 use borrow.Author.Needs.{needs}
 use Rattle.board.proofs.record.Board.well_formed.Statement.{statement}
 use Rattle.board.proofs.record.Board.well_formed.Tie as tie
-use Rattle.board.proofs.record.Board.well_formed.Reads as reads
-use Rattle.board.proofs.record.Board.well_formed.Lts as lts
-use Rattle.board.proofs.record.Board.order_ok.Reads as order-ok-reads
-use Rattle.commands.proofs.Engine.well_formed.Reads as Engine-well-formed-reads
-use Rattle.slots.proofs.record.Active.well_formed.Reads as record-Active-well-formed-reads
-use Rattle.slots.proofs.record.Sizes.in_limits.Reads as in-limits-reads
-use Rattle.slots.proofs.record.Slot.well_formed.Reads as record-Slot-well-formed-reads
 
 in-limits-requires : tie.Need-in-limits-requires
 in-limits-requires c κs = search needs

@@ -6,16 +6,16 @@ use Rattle.lists.proofs.spans.Span.touches.Tie as tie
 end-requires : tie.Need-end-requires
 end-requires c κs = search needs
 
-cast-less : tie.Need-cast-less
-cast-less c = search needs
+cast-saturating-sub : tie.Need-cast-saturating-sub
+cast-saturating-sub c = search needs
 
-less-requires : tie.Need-less-requires
-less-requires c κs = search needs
+saturating-sub-requires : tie.Need-saturating-sub-requires
+saturating-sub-requires c κs = search needs
 
 returns : tie.Need-returns
 returns c =
     let s = c .before .before .before .args in
-    rw (c .before .before .end .ensures, c .less .ensures) (touch-by-gap (s .self) (s .first) (s .n))
+    rw (c .before .before .end .ensures, c .saturating-sub .ensures) (touch-by-gap (s .self) (s .first) (s .n))
 
 pub touches-spec : {M : Type 1} → statement M
-touches-spec = tie.close (tie.spec end-requires cast-less less-requires returns)
+touches-spec = tie.close (tie.spec end-requires cast-saturating-sub saturating-sub-requires returns)

@@ -5,11 +5,6 @@ use mathlib.Core.Path.{ap, ap₂, _∙_}
 use borrow.Author.Needs.{needs}
 use Rattle.slots.proofs.record.Active.well_formed.Statement.{statement}
 use Rattle.slots.proofs.record.Active.well_formed.Tie as tie
-use Rattle.slots.proofs.record.Active.well_formed.Reads as reads
-use Rattle.slots.proofs.record.Active.well_formed.Lts as lts
-use Rattle.lists.proofs.cursors.Cursor.well_formed.Reads as well-formed-reads
-use Rattle.lists.proofs.spans.Span.fits.Reads as fits-reads
-use Rattle.lists.proofs.spans.Span.is_none.Reads as is-none-reads
 
 fits-requires : tie.Need-fits-requires
 fits-requires c κs = search needs

@@ -3,8 +3,6 @@ use native.Mathlib.Omega.{arith}
 use borrow.Author.Needs.{needs}
 use Rattle.slots.proofs.record.Sizes.lent_ok.Statement.{statement}
 use Rattle.slots.proofs.record.Sizes.lent_ok.Tie as tie
-use Rattle.slots.proofs.record.Sizes.lent_ok.Reads as reads
-use Rattle.slots.proofs.record.Sizes.lent_ok.Lts as lts
 
 cast-area : tie.Need-cast-area
 cast-area c = search needs

@@ -3,10 +3,6 @@ use mathlib.Core.Path.{_∙_}
 use borrow.Author.Needs.{needs}
 use Rattle.slots.proofs.record.Slot.well_formed.Statement.{statement}
 use Rattle.slots.proofs.record.Slot.well_formed.Tie as tie
-use Rattle.slots.proofs.record.Slot.well_formed.Reads as reads
-use Rattle.slots.proofs.record.Slot.well_formed.Lts as lts
-use Rattle.lists.proofs.spans.Span.fits.Reads as fits-reads
-use Rattle.lists.proofs.spans.Span.is_none.Reads as is-none-reads
 
 fits-requires : tie.Need-fits-requires
 fits-requires c κs = search needs

@@ -1,18 +1,20 @@
 // The pixels of a line that are visible in a window: one stretch, found by divisions.
 ghost use mathlib.Core.Path.{_≡_};
-ghost use Prim.Native.Nat.{_+_, _-_, _≤_, _<_, min, max};
+ghost use Prim.Native.Nat.{_+_, _-_, _≤_, _<_};
 ghost use Rattle.geometry.specs.Coordinates.{pointOf};
 ghost use Rattle.geometry.specs.Clip.{inWindow};
 ghost use Rattle.geometry.specs.Line.{stepsOf};
 ghost use Rattle.strokes.specs.Tracers.{Axis};
-ghost use Rattle.strokes.specs.Spans.{Counts, Below, AtLeast, Spans, Visible};
+ghost use Rattle.strokes.specs.Ranges.{Counts, Below, AtLeast, Ranges, Visible};
 use geometry::Point;
 use geometry::Window;
 use geometry::line_steps;
 use geometry::point_of;
+use numbers::max;
+use numbers::min;
 
 // Pixels of a line by their numbers, from `start` to the one before `end`.
-pub(crate) struct Span {
+pub(crate) struct Range {
     pub(crate) start: usize,
     pub(crate) end: usize,
 }
@@ -57,30 +59,18 @@ fn at_least(n: usize, a: usize, b: usize, c: usize) -> usize
 }
 
 // The pixels whose coordinate is at least `low` and below `high`.
-fn span_of(n: usize, a: usize, b: usize, low: usize, high: usize) -> Span
+fn range_of(n: usize, a: usize, b: usize, low: usize, high: usize) -> Range
     requires { ⌜ Axis n a b ⌝ }
-    ensures { λ r. ⌜ Spans n a b low high r ⌝ }
+    ensures { λ r. ⌜ Ranges n a b low high r ⌝ }
 {
     if a <= b {
         let start = below(n, a, b, low);
         let end = below(n, a, b, high);
-        return Span { start, end };
+        return Range { start, end };
     }
     let start = at_least(n, a, b, high);
     let end = at_least(n, a, b, low);
-    Span { start, end }
-}
-
-fn larger(a: usize, b: usize) -> usize
-    ensures { λ r. ⌜ r ≡ max a b ⌝ }
-{
-    if a <= b { b } else { a }
-}
-
-fn smaller(a: usize, b: usize) -> usize
-    ensures { λ r. ⌜ r ≡ min a b ⌝ }
-{
-    if a <= b { a } else { b }
+    Range { start, end }
 }
 
 // Whether a point is visible in a window.
@@ -91,7 +81,7 @@ fn visible(w: Window, p: Point) -> bool
 }
 
 // Of n pixels of a line from pixel `first` on, those that are visible in a window.
-pub(crate) fn visible_span(w: Window, from: u32, to: u32, first: usize, n: usize) -> Span
+pub(crate) fn visible_range(w: Window, from: u32, to: u32, first: usize, n: usize) -> Range
     requires { ⌜ (0 < stepsOf (pointOf from) (pointOf to)) × (first + n ≤ stepsOf (pointOf from) (pointOf to) + 1) ⌝ }
     ensures { λ r. ⌜ Visible w (pointOf from) (pointOf to) first n r ⌝ }
 {
@@ -99,21 +89,21 @@ pub(crate) fn visible_span(w: Window, from: u32, to: u32, first: usize, n: usize
     let b = point_of(to);
     let last = first + n;
     if visible(w, a) & visible(w, b) {
-        return Span {
+        return Range {
             start: first,
             end: last,
         };
     }
     let steps = line_steps(from, to);
-    let x = span_of(steps, a.x, b.x, w.left, w.right);
+    let x = range_of(steps, a.x, b.x, w.left, w.right);
     if x.end <= x.start {
-        return Span {
+        return Range {
             start: first,
             end: first,
         };
     }
-    let y = span_of(steps, a.y, b.y, w.top, w.bottom);
-    let start = larger(larger(first, x.start), y.start);
-    let end = smaller(smaller(last, x.end), y.end);
-    Span { start, end }
+    let y = range_of(steps, a.y, b.y, w.top, w.bottom);
+    let start = max(max(first, x.start), y.start);
+    let end = min(min(last, x.end), y.end);
+    Range { start, end }
 }

@@ -1,4 +1,4 @@
--- `strokes::spans::count` meets its contract. Along the major axis each pixel goes 2n, so that m + 1 of them go no further
+-- `strokes::ranges::count` meets its contract. Along the major axis each pixel goes 2n, so that m + 1 of them go no further
 -- (`count-major`); else the quotient counts them (`count-minor`).
 -- Assumes nothing.
 use Prim.Native.Nat.{_+_, _*_, _<_}
@@ -7,8 +7,8 @@ use native.Mathlib.Omega.{arith}
 use borrow.Author.Needs.{needs}
 use Rattle.geometry.proofs.Lines.{product-lt}
 use Rattle.strokes.proofs.Crossings.{count-major, count-minor}
-use Rattle.strokes.proofs.spans.count.Statement.{statement}
-use Rattle.strokes.proofs.spans.count.Tie as tie
+use Rattle.strokes.proofs.ranges.count.Statement.{statement}
+use Rattle.strokes.proofs.ranges.count.Tie as tie
 
 few : (c : tie.Else1) → let a = c .before .args in a .n * a .m < 8589934592
 few c = product-lt _ _ (c .before .pre .2) (c .before .pre .3)

@@ -1,10 +1,10 @@
--- `strokes::spans::below` meets its contract. No pixel lies below c where the axis starts there or past it (`below-none`),
+-- `strokes::ranges::below` meets its contract. No pixel lies below c where the axis starts there or past it (`below-none`),
 -- each does where it ends below c (`below-all`), and between the two `count` counts them (`below-count`).
 -- Assumes nothing.
 use borrow.Author.Needs.{needs}
 use Rattle.strokes.proofs.Crossings.{below-none, below-all, below-count}
-use Rattle.strokes.proofs.spans.below.Statement.{statement}
-use Rattle.strokes.proofs.spans.below.Tie as tie
+use Rattle.strokes.proofs.ranges.below.Statement.{statement}
+use Rattle.strokes.proofs.ranges.below.Tie as tie
 
 returns : tie.Need-returns
 returns c = below-none _ _ _ _ (c .before .pre .0 .some) (c .before .pre .1) (c .if1 .taken)

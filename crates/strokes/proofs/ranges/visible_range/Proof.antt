@@ -1,12 +1,12 @@
--- `strokes::spans::visible_span` meets its contract. Where both ends are visible all pixels are (`visible-whole`); where no
+-- `strokes::ranges::visible_range` meets its contract. Where both ends are visible all pixels are (`visible-whole`); where no
 -- x lies in the window none is (`hidden-beside`); else those are whose x and y both do (`visible-by`).
 -- Assumes nothing.
 use borrow.Author.Needs.{needs}
 use Rattle.geometry.proofs.Lines.{steps-lt}
 use Rattle.strokes.proofs.Crossings.{last-fits, visible-whole, visible-by, hidden-beside}
 use Rattle.strokes.proofs.Traced.{x-axis, y-axis}
-use Rattle.strokes.proofs.spans.visible_span.Statement.{statement}
-use Rattle.strokes.proofs.spans.visible_span.Tie as tie
+use Rattle.strokes.proofs.ranges.visible_range.Statement.{statement}
+use Rattle.strokes.proofs.ranges.visible_range.Tie as tie
 
 point-of-requires : tie.Need-point-of-requires
 point-of-requires c κs = search needs
@@ -36,8 +36,8 @@ returns c =
 line-steps-requires : tie.Need-line-steps-requires
 line-steps-requires c κs = search needs
 
-span-of-requires : tie.Need-span-of-requires
-span-of-requires c κs =
+range-of-requires : tie.Need-range-of-requires
+range-of-requires c κs =
     let l = c in
     let q = l .before .before .before .before in
     let s = q .before .before in
@@ -51,27 +51,27 @@ returns-2 c =
     let q = l .before .before .before .before in
     let s = q .before .before in
     hidden-beside _ _ _ _ _ _ _ _ _ (s .pre .1) (q .before .point-of .ensures) (q .point-of2 .ensures) (l .line-steps .ensures)
-    (x .span-of .ensures) (c .if2 .taken)
+    (x .range-of .ensures) (c .if2 .taken)
 
-span-of-requires-2 : tie.Need-span-of-requires-2
-span-of-requires-2 c κs =
+range-of-requires-2 : tie.Need-range-of-requires-2
+range-of-requires-2 c κs =
     let l = c .before .before .before in
     let q = l .before .before .before .before in
     let s = q .before .before in
     rw (l .line-steps .ensures, q .point-of2 .ensures, q .before .point-of .ensures)
     (y-axis _ _ (s .pre .0))
 
-larger-requires : tie.Need-larger-requires
-larger-requires c κs = search needs
+max-requires : tie.Need-max-requires
+max-requires c κs = search needs
 
-larger-requires-2 : tie.Need-larger-requires-2
-larger-requires-2 c κs = search needs
+max-requires-2 : tie.Need-max-requires-2
+max-requires-2 c κs = search needs
 
-smaller-requires : tie.Need-smaller-requires
-smaller-requires c κs = search needs
+min-requires : tie.Need-min-requires
+min-requires c κs = search needs
 
-smaller-requires-2 : tie.Need-smaller-requires-2
-smaller-requires-2 c κs = search needs
+min-requires-2 : tie.Need-min-requires-2
+min-requires-2 c κs = search needs
 
 returns-3 : tie.Need-returns-3
 returns-3 c =
@@ -82,10 +82,10 @@ returns-3 c =
     let q = l .before .before .before .before in
     let s = q .before .before in
     visible-by _ _ _ _ _ _ _ _ _ _ _ _ _ _ (s .pre .1) (q .before .point-of .ensures) (q .point-of2 .ensures) (l .line-steps .ensures)
-    (x .span-of .ensures) (y .span-of2 .ensures) (g .before .larger .ensures) (g .larger2 .ensures) (c .before .smaller .ensures) (c .smaller2 .ensures)
+    (x .range-of .ensures) (y .range-of2 .ensures) (g .before .max .ensures) (g .max2 .ensures) (c .before .min .ensures) (c .min2 .ensures)
 
-pub visible-span-spec : {M : Type 1} → statement M
-visible-span-spec =
+pub visible-range-spec : {M : Type 1} → statement M
+visible-range-spec =
     tie.close
     (tie.spec
     point-of-requires
@@ -95,11 +95,11 @@ visible-span-spec =
     visible-requires-2
     returns
     line-steps-requires
-    span-of-requires
+    range-of-requires
     returns-2
-    span-of-requires-2
-    larger-requires
-    larger-requires-2
-    smaller-requires
-    smaller-requires-2
+    range-of-requires-2
+    max-requires
+    max-requires-2
+    min-requires
+    min-requires-2
     returns-3)

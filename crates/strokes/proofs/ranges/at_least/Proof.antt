@@ -1,10 +1,10 @@
--- `strokes::spans::at_least` meets its contract. No pixel lies at c or above where the axis starts below it (`least-none`),
+-- `strokes::ranges::at_least` meets its contract. No pixel lies at c or above where the axis starts below it (`least-none`),
 -- each does where it ends there or above (`least-all`), and between the two `count` counts them (`least-count`).
 -- Assumes nothing.
 use borrow.Author.Needs.{needs}
 use Rattle.strokes.proofs.Crossings.{least-none, least-all, least-count}
-use Rattle.strokes.proofs.spans.at_least.Statement.{statement}
-use Rattle.strokes.proofs.spans.at_least.Tie as tie
+use Rattle.strokes.proofs.ranges.at_least.Statement.{statement}
+use Rattle.strokes.proofs.ranges.at_least.Tie as tie
 
 returns : tie.Need-returns
 returns c = least-none _ _ _ _ (c .before .pre .0 .some) (c .before .pre .1) (c .if1 .taken)
