@@ -2,10 +2,10 @@
 -- Assumes nothing.
 use Rattle.geometry.specs.declared.Cell.the-variants.{Past as CellPast}
 use mathlib.Core.Path.{_≡_, ap, ap₂, sym, _∙_}
-use mathlib.Core.Bool.{Bool, true, false, not, cond, _&&_, _||_}
+use mathlib.Core.Bool.{Bool, true, false, not, cond, _&&_, _||_, false≢true}
 use Prim.Native.Nat.{ℕ}
-use lib.Dec.{eqb}
-use Rattle.lemmas.proofs.Booleans.{first-of, second-of}
+use lib.Dec.{eqb, ltb}
+use Rattle.lemmas.proofs.Booleans.{by-cases, first-of, second-of}
 use Rattle.geometry.specs.Coordinates.{pointOf}
 use Rattle.geometry.specs.Clip.{rectOf, inRect, placeOf}
 use Rattle.geometry.specs.Line.{lineCount, lineVisit}
@@ -18,7 +18,7 @@ use Rattle.geometry.specs.declared.Place.{Place}
 use Rattle.geometry.specs.declared.Place.the-variants.{Outside}
 use Rattle.geometry.specs.declared.Visit.{Visit}
 use Rattle.geometry.specs.declared.Visit.the-variants.{At as VisitAt, Past}
-use Rattle.entries.specs.Fields.{isBlit, isPolyline, isLine, isTrigger}
+use Rattle.entries.specs.Fields.{isBlit, isPolyline, isLine, draws, isTrigger}
 use Rattle.entries.specs.declared.fields.Command.{Command}
 use Rattle.commands.specs.Visits.{commandIn, lineStart, countOf, cellAt, positionOf, clippedOut, throughTo, targetFrom}
 use Rattle.commands.specs.Steps.{inDashes, setsPattern}
@@ -67,6 +67,23 @@ module _ (extent : Extent) (e : Engine) where
   count-none h k =
       second-of (isLine (commandIn e)) lineTo 0 k
       ∙ second-of (isBlit (commandIn e)) (blitCount (e .registers .xy2)) (cond (isLine (commandIn e)) lineTo 0) h
+
+  -- a command that is no blit visits no pixel where it is no line, or an empty one
+  pub empty-line : isBlit (commandIn e) ≡ false → (t none : Bool) → t ≡ isLine (commandIn e) → none ≡ eqb lineTo 0
+      → (not t || none) ≡ eqb (countOf extent e) 0
+  empty-line h t none q r = by t q
+    where
+      by : (t : Bool) → t ≡ isLine (commandIn e) → (not t || none) ≡ eqb (countOf extent e) 0
+      by true q = r ∙ ap (λ n. eqb n 0) (count-line h (sym q))
+      by false q = ap (λ n. eqb n 0) (count-none h (sym q))
+
+  -- a command with pixels to visit is a blit or a line
+  pub pixels-draw : ltb 0 (countOf extent e) ≡ true → draws (commandIn e) ≡ true
+  pixels-draw h =
+      by-cases (isBlit (commandIn e)) (λ t. ap (λ t. t || isLine (commandIn e)) t)
+      (λ t.
+      by-cases (isLine (commandIn e)) (λ u. ap₂ _||_ t u)
+      (λ u. absurd (false≢true (ap (ltb 0) (count-none t u) ∙ h))))
 
   pub cell-blit : (k : ℕ) → isBlit (commandIn e) ≡ true → blitCell (e .registers .xy2) k ≡ cellAt extent e k
   unfolding cellAt

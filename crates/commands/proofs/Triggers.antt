@@ -1,7 +1,7 @@
 -- The trigger of a command, by the tests that it passes; and that a command which its trigger sets under way keeps its last
 -- point, and so its count, until it has finished.
 -- Assumes nothing.
-use mathlib.Core.Path.{_≡_, refl, ap, sym, _∙_}
+use mathlib.Core.Path.{_≡_, refl, ap, ap₂, sym, _∙_}
 use mathlib.Core.Bool.{Bool, true, false, not, cond, _&&_, and-false}
 use Prim.Native.Nat.{ℕ}
 use native.Mathlib.Omega.{arith}
@@ -15,6 +15,7 @@ use Rattle.commands.specs.Visits.{commandIn, countOf}
 use Rattle.commands.specs.Steps.{patternSet, finishes, triggeredOf}
 use Rattle.commands.specs.declared.Engine.{Engine}
 use Rattle.commands.proofs.Bounds.{count-same}
+use Rattle.commands.proofs.Tests.{pixels-draw}
 
 -- another register than XY1 triggers nothing
 pub triggers-nothing : (extent : Extent) (number : ℕ) (f : Engine) → isTrigger number ≡ false → (q : Pattern) → q ≡ patternSet number f
@@ -35,14 +36,20 @@ module _ (extent : Extent) (number : ℕ) (f : Engine) (trigger : isTrigger numb
   triggering : triggers number (commandIn f) ≡ d
   triggering = ap (λ t. t && draws (commandIn f)) trigger ∙ sym drawn
 
-  begins : (d && not empty) ≡ (triggers number (commandIn f) && ltb 0 (countOf extent f))
-  begins = ap (λ t. t && not empty) (sym triggering) ∙ ap (λ t. triggers number (commandIn f) && t) (some-pixels (countOf extent f) empty none)
+  -- only a command that draws has pixels
+  begins : not empty ≡ (triggers number (commandIn f) && ltb 0 (countOf extent f))
+  begins =
+      let some = ltb 0 (countOf extent f) in
+      some-pixels (countOf extent f) empty none
+      ∙ by-cases some
+      (λ t. t ∙ sym (ap₂ _&&_ (ap₂ _&&_ trigger (pixels-draw extent f t)) t))
+      (λ t. t ∙ sym (ap (λ s. triggers number (commandIn f) && s) t ∙ and-false (triggers number (commandIn f))))
 
   ends : (d && empty) ≡ finishes extent number f
   ends = ap (λ t. t && empty) (sym triggering) ∙ ap (λ t. triggers number (commandIn f) && t) none
 
   pub triggers-command : (b : Bool) → (d && empty) ≡ b
-      → record { «under_way» = d && not empty; visited = 0; registers = f .registers; pattern = q; last = cond b (f .registers .xy1) (f .last) }
+      → record { «under_way» = not empty; visited = 0; registers = f .registers; pattern = q; last = cond b (f .registers .xy1) (f .last) }
       ≡ triggeredOf extent number f
   triggers-command b h i =
       record {

@@ -128,7 +128,7 @@ impl Engine {
         let draws = c.draws();
         let empty = self.is_empty(extent);
         Engine {
-            under_way: draws & !empty,
+            under_way: !empty,
             visited: 0,
             registers: g,
             pattern: p,

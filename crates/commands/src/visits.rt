@@ -51,10 +51,9 @@ impl Engine {
         if c.is_blit() {
             return blit_count(g.xy2) == 0;
         }
-        if c.is_line() {
-            return line_is_empty(self.line_start(), g.xy1, c.nlst);
-        }
-        true
+        let line = c.is_line();
+        let start = self.line_start();
+        !line | line_is_empty(start, g.xy1, c.nlst)
     }
 
     // The cell of its visit k, if it is a blit.

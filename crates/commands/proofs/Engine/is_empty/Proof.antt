@@ -1,24 +1,24 @@
-use Rattle.commands.proofs.Tests.{count-blit, count-line, count-none}
+use Rattle.commands.specs.Visits.{commandIn}
 use Rattle.entries.specs.Fields.{isBlit, isLine}
 use lib.Dec.{eqb}
-use mathlib.Core.Path.{ap}
-use Rattle.commands.specs.Visits.{commandIn}
 use mathlib.Core.Bool.{Bool, true, false}
-use mathlib.Core.Path.{_≡_, _∙_}
-use Rattle.commands.proofs.Tests.{test-is}
+use mathlib.Core.Path.{_≡_, ap, _∙_}
+use Rattle.commands.proofs.Tests.{test-is, count-blit, empty-line}
 use borrow.Author.Needs.{needs}
 use Rattle.commands.proofs.Engine.is_empty.Statement.{statement}
 use Rattle.commands.proofs.Engine.is_empty.Tie as tie
+use Rattle.commands.proofs.Engine.is_empty.Reads as reads
+use Rattle.commands.proofs.Engine.is_empty.Lts as lts
+use Rattle.commands.proofs.Engine.line_start.Reads as line-start-reads
+use Rattle.entries.proofs.fields.Command.is_blit.Reads as is-blit-reads
+use Rattle.entries.proofs.fields.Command.is_line.Reads as is-line-reads
+use Rattle.entries.proofs.command_of.Reads as command-of-reads
+use Rattle.geometry.proofs.blit_count.Reads as blit-count-reads
+use Rattle.geometry.proofs.line_is_empty.Reads as line-is-empty-reads
 
 -- whether the command in CMD is a blit
 blit : (c : tie.After-is-blit) (b : Bool) → c .is-blit .result ≡ b → isBlit (commandIn (c .before .before .before .args .self)) ≡ b
 blit c b h = test-is (c .before .before .before .args .self) _ (c .before .command-of .ensures) isBlit _ (c .is-blit .ensures) b h
-
--- whether it is a line
-line : (c : tie.After-is-line) (b : Bool) → c .is-line .result ≡ b → isLine (commandIn (c .before .before .before .before .before .args .self)) ≡ b
-line c b h =
-    let o = c .before .before .before in
-    test-is (o .before .before .args .self) _ (o .command-of .ensures) isLine _ (c .is-line .ensures) b h
 
 command-of-requires : tie.Need-command-of-requires
 command-of-requires c κs = search needs
@@ -43,15 +43,11 @@ line-is-empty-requires c κs = search needs
 
 returns-2 : tie.Need-returns-2
 returns-2 c =
-    let o = c .before .before .before in
-    let said = o .before .before .before .command-of .ensures in
-    c .line-is-empty .ensures ∙ rw (c .before .line-start .ensures, said)
-    (ap (λ n. eqb n 0) (count-line _ _ (blit (o .before .before) false (o .before .if1 .left)) (line o true (c .before .before .if2 .taken))))
-
-returns-3 : tie.Need-returns-3
-returns-3 c =
-    ap (λ n. eqb n 0)
-    (count-none _ _ (blit (c .before .before .before) false (c .before .before .if1 .left)) (line (c .before) false (c .if2 .left)))
+    let line = c .before .before in
+    let o = line .before in
+    let said = o .before .before .command-of .ensures in
+    empty-line _ _ (blit (o .before) false (o .if1 .left)) _ _ (line .is-line .ensures ∙ ap isLine said)
+    (c .line-is-empty .ensures ∙ rw (c .before .line-start .ensures, said))
 
 pub is-empty-spec : {M : Type 1} → statement M
 is-empty-spec =
@@ -64,5 +60,4 @@ is-empty-spec =
     is-line-requires
     line-start-requires
     line-is-empty-requires
-    returns-2
-    returns-3)
+    returns-2)
