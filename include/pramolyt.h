@@ -94,7 +94,8 @@ uint32_t pramolyt_run(pramolyt_board *board, uint64_t *steps, uint64_t budget, c
 }
 #endif
 
-/* The library reads the record as 28 words in this order. */
+/* The library reads the record as so many words, in this order. */
+#define PRAMOLYT_WORDS 28
 #if defined(__cplusplus) && __cplusplus >= 201103L
 #define PRAMOLYT_ASSERT(fact, text) static_assert(fact, text);
 #elif defined(__STDC_VERSION__) && __STDC_VERSION__ >= 201112L
@@ -104,7 +105,7 @@ uint32_t pramolyt_run(pramolyt_board *board, uint64_t *steps, uint64_t budget, c
 #endif
 #define PRAMOLYT_WORD(member, word) PRAMOLYT_ASSERT(offsetof(pramolyt_board, member) == 4 * (word), #member " is word " #word)
 PRAMOLYT_ASSERT(sizeof(size_t) == 8, "size_t has 64 bits")
-PRAMOLYT_ASSERT(sizeof(pramolyt_board) == 28 * 4, "pramolyt_board is 28 words")
+PRAMOLYT_ASSERT(sizeof(pramolyt_board) == 4 * PRAMOLYT_WORDS, "pramolyt_board has PRAMOLYT_WORDS words")
 PRAMOLYT_WORD(width, 0)
 PRAMOLYT_WORD(height, 1)
 PRAMOLYT_WORD(entries, 2)

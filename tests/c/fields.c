@@ -5,7 +5,7 @@
 
 #include "pramolyt.h"
 
-enum { WIDTH = 64, HEIGHT = 48, ENTRIES = 40, START = 4, COUNT = 13, AREA = WIDTH * HEIGHT, WORDS = 28 };
+enum { WIDTH = 64, HEIGHT = 48, ENTRIES = 40, START = 4, COUNT = 13, AREA = WIDTH * HEIGHT, WORDS = PRAMOLYT_WORDS };
 
 typedef struct member {
     const char *name;
@@ -158,14 +158,14 @@ static void malformed(const pramolyt_board *given, const char *about)
           "memories stay", about);
 }
 
-/* 28 words of which no two are equal but the flags: with each combination of flags they come back through the record */
+/* Words of which no two are equal but the flags: with each combination of flags they come back through the record */
 static void distinct(void)
 {
     pramolyt_board b;
     uint32_t i, f;
     for (i = 0; i < WORDS; i++)
         set(&b, 4 * i, 0x80000001 + 0x01010101 * i);
-    malformed(&b, "28 distinct words");
+    malformed(&b, "distinct words");
     for (f = 0; f < 8; f++) {
         for (i = 0; i < 3; i++)
             set(&b, flags[i].offset, f >> i & 1);

@@ -10,7 +10,7 @@ use lib.Dec.{eqb, ltb}
 use lib.ListN.{length, getD, drop}
 use lib.Seq.{drop-length, drop-cons}
 use Rattle.lemmas.proofs.Booleans.{and-left, and-right}
-use Rattle.pramolyt.specs.Image.{flagOf, DecodesEncoded, EncodesDecoded}
+use Rattle.pramolyt.specs.Image.{words, flagOf, DecodesEncoded, EncodesDecoded}
 
 flag-decoded : (t : Bool) → eqb (flagOf t) 1 ≡ t
 flag-decoded true = refl
@@ -41,4 +41,4 @@ encodes-decoded w h f =
       flag-encoded (getD w 6 0) (and-right (ltb (getD w 3 0) 2) (ltb (getD w 6 0) 2) slots),
       flag-encoded (getD w 10 0) (and-right (ltb (getD w 3 0) 2 && ltb (getD w 6 0) 2) (ltb (getD w 10 0) 2) f),
     )
-    (words-drop 28 0 w (omega arith))
+    (words-drop words 0 w (omega arith))

@@ -1,7 +1,7 @@
 // The board record as words of 32 bits, part by part.
 ghost use mathlib.Core.Path.{_≡_};
 ghost use Prim.Native.Nat.{_+_, _≤_};
-ghost use Rattle.pramolyt.specs.Image.{flagOf, putWords, sizesWords, slotWords, commandWords, registersWords, patternWords, lastWords, wordsOf, sizesIn, slotIn, registersIn, patternIn, engineIn, boardOf, flagsOk};
+ghost use Rattle.pramolyt.specs.Image.{sizesAt, commandAt, registersAt, patternAt, lastAt, words, flagOf, putWords, sizesWords, slotWords, commandWords, registersWords, patternWords, lastWords, wordsOf, sizesIn, slotIn, registersIn, patternIn, engineIn, boardOf, flagsOk};
 use board::Board;
 use commands::Engine;
 use geometry::Extent;
@@ -58,7 +58,7 @@ fn sizes_in(w: [u32; WORDS]) -> Sizes
 }
 
 fn slot_in(w: [u32; WORDS], at: usize) -> Slot
-    requires { ⌜ at + 3 ≤ 28 ⌝ }
+    requires { ⌜ at + 3 ≤ words ⌝ }
     ensures { λ r. ⌜ r ≡ slotIn at w ⌝ }
 {
     Slot {
@@ -137,7 +137,7 @@ pub(crate) fn decode(w: [u32; WORDS]) -> Board
 }
 
 fn put_sizes(w: [u32; WORDS], z: Sizes) -> [u32; WORDS]
-    ensures { λ r. ⌜ r ≡ putWords w 0 (sizesWords z) ⌝ }
+    ensures { λ r. ⌜ r ≡ putWords w sizesAt (sizesWords z) ⌝ }
 {
     let mut v = w;
     v[SIZES] = z.extent.width;
@@ -147,7 +147,7 @@ fn put_sizes(w: [u32; WORDS], z: Sizes) -> [u32; WORDS]
 }
 
 fn put_slot(w: [u32; WORDS], at: usize, s: Slot) -> [u32; WORDS]
-    requires { ⌜ at + 3 ≤ 28 ⌝ }
+    requires { ⌜ at + 3 ≤ words ⌝ }
     ensures { λ r. ⌜ r ≡ putWords w at (slotWords s) ⌝ }
 {
     let mut v = w;
@@ -158,7 +158,7 @@ fn put_slot(w: [u32; WORDS], at: usize, s: Slot) -> [u32; WORDS]
 }
 
 fn put_registers(w: [u32; WORDS], g: Registers) -> [u32; WORDS]
-    ensures { λ r. ⌜ r ≡ putWords w 12 (registersWords g) ⌝ }
+    ensures { λ r. ⌜ r ≡ putWords w registersAt (registersWords g) ⌝ }
 {
     let mut v = w;
     v[REGISTERS] = g.cmd;
@@ -179,7 +179,7 @@ fn put_registers(w: [u32; WORDS], g: Registers) -> [u32; WORDS]
 
 // The command under way, the pattern state and the last point.
 fn put_command(w: [u32; WORDS], e: Engine) -> [u32; WORDS]
-    ensures { λ r. ⌜ r ≡ putWords (putWords (putWords w 10 (commandWords e)) 25 (patternWords (e .pattern))) 27 (lastWords e) ⌝ }
+    ensures { λ r. ⌜ r ≡ putWords (putWords (putWords w commandAt (commandWords e)) patternAt (patternWords (e .pattern))) lastAt (lastWords e) ⌝ }
 {
     let mut v = w;
     v[COMMAND] = flag(e.under_way);

@@ -54,7 +54,7 @@ impl Board {
     /// [`Answer::WrongSize`] and the board is the 1 by 1 board with 1 entry.
     pub fn make(width: usize, height: usize, entries: usize) -> (Answer, Board) {
         let mut board = Board::from_words([u32::MAX; WORDS]);
-        // SAFETY: the library writes the 28 words of the record and nothing else.
+        // SAFETY: the library writes the WORDS words of the record and nothing else.
         let number = unsafe { ffi::pramolyt_make(&mut board, width, height, entries) };
         (Answer::heard(number, 0, 0), board)
     }
