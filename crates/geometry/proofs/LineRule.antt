@@ -1,4 +1,4 @@
--- The rule of document 01 for a line's pixels, in whole numbers.
+-- The rule of document 01 for a line's pixels, in whole numbers: each coordinate is nearest, and no other is.
 -- Assumes nothing.
 use mathlib.Core.Path.{_≡_, refl, ap, ap₂, sym, subst, _∙_}
 use mathlib.Core.Bool.{Bool, true, false}

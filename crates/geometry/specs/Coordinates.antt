@@ -1,6 +1,6 @@
--- Coordinates (01, Entry layout, and Pixels: "plain whole numbers [that] never wrap at 16 bits").
--- The whole number z is held as the natural z + 98,304. A coordinate in a register is at least -32,768, and a visit lies
--- at most 65,535 from its command's corner or end, so no sum and no difference below leaves the naturals.
+-- Coordinates (01, Entry layout, and Pixels: "Coordinates are plain whole numbers and never wrap at 16 bits").
+-- The whole number z is held as the natural z + 98,304. A coordinate in a register is at least -32,768, and a visit
+-- lies at most 65,535 from its command's corner or end, so no sum and no difference below leaves the naturals.
 use mathlib.Core.Path.{_≡_}
 use mathlib.Core.Bool.{cond}
 use Prim.Native.Nat.{ℕ, _+_, _/_, _%_, _<_}
@@ -25,7 +25,7 @@ signed16 h = cond (ltb h 32768) (pos h) (subℕ h 65536)
 abbrev pub coordinateOf : ℕ → ℕ
 coordinateOf h = (h + 32768) % 65536 + 65536
 
--- "x in the high half, y in the low half, each two's complement"
+-- "x in the high half, y in the low half .. each two's complement"
 unfoldable pub pointOf : ℕ → Point
 pointOf word = record { x = coordinateOf (word / 65536); y = coordinateOf (word % 65536) }
 

@@ -41,7 +41,7 @@ linePoint a b i = record { x = nearestOf (stepsOf a b) i (a .x) (b .x); y = near
 unfoldable pub lineVisit : Point → Point → Bool → ℕ → Visit
 lineVisit a b nlst k = cond (ltb k (lineCount a b nlst)) (At (linePoint a b k)) Past
 
--- What the paper says of these pixels in whole numbers; proved in proofs/Lines.antt.
+-- What document 01 says of these pixels; proved in proofs/LineRule.antt, in whole numbers, and proofs/Lines.antt.
 
 -- "E = n x (A's minor) + i x (signed minor difference)"
 abbrev pub exactZ : ℕ → ℕ → ℤ → ℤ → ℤ

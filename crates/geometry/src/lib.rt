@@ -151,7 +151,7 @@ pub fn line_steps(from: u32, to: u32) -> usize
     max(distance_of(a.x, b.x), distance_of(a.y, b.y))
 }
 
-// The pixels that a line visits; skip_last is NLST.
+// How many pixels a line visits; skip_last is NLST.
 pub fn line_count(from: u32, to: u32, skip_last: bool) -> usize
     ensures { λ r. ⌜ r ≡ lineCount (pointOf from) (pointOf to) «skip_last» ⌝ }
 {
@@ -193,7 +193,7 @@ pub fn line_visit(from: u32, to: u32, skip_last: bool, k: usize) -> Visit
     Visit::At(Point { x, y })
 }
 
-// The pixels that a blit visits, from XY2: width x height.
+// How many pixels a blit visits, from XY2: width x height.
 pub fn blit_count(size: u32) -> usize
     ensures { λ r. ⌜ r ≡ blitCount size ⌝ }
 {

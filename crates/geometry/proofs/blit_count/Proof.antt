@@ -1,3 +1,4 @@
+-- The product of the two halves of a word is below 2^32 (`count-lt`), so that it fits.
 use borrow.Author.Needs.{needs}
 use native.Mathlib.Omega.{arith}
 use Rattle.geometry.proofs.Blits.{count-lt}

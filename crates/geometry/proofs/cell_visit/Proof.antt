@@ -1,3 +1,4 @@
+-- A corner's coordinates are below 131,072 (`x-within`, `y-within`), as `moved` asks on each axis.
 use borrow.Author.Needs.{needs}
 use Rattle.geometry.proofs.Whole.{x-within, y-within}
 use Rattle.geometry.proofs.cell_visit.Statement.{statement}

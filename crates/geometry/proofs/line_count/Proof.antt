@@ -1,3 +1,4 @@
+-- n is below 65,536 (`steps-lt`), so that n + 1 does not wrap.
 use borrow.Author.Needs.{needs}
 use native.Mathlib.Omega.{arith}
 use Rattle.geometry.proofs.Lines.{steps-lt}

@@ -1,3 +1,4 @@
+-- A line visits no pixel only with NLST and from a point to itself, and a point has one word (`line-empty`).
 use borrow.Author.Needs.{needs}
 use Rattle.geometry.proofs.Lines.{line-empty}
 use Rattle.geometry.proofs.line_is_empty.Statement.{statement}

@@ -1,3 +1,5 @@
+-- From the count on there is no visit (`line-past`); below it visit k is pixel k (`line-at`). There k is at most n
+-- (`count-le`), and n is below 65,536 (`steps-lt`), as `nearest` asks.
 use borrow.Author.Needs.{needs}
 use Prim.Native.Nat.{_≤_}
 use native.Mathlib.Omega.{arith}

@@ -1,3 +1,4 @@
+-- By the direction; where k is not below c, the 0 that is returned is the natural c - k.
 use borrow.Author.Needs.{needs}
 use borrow.Author.Tests.{not-true, not-false}
 use native.Mathlib.Omega.{arith}

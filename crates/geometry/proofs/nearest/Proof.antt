@@ -1,3 +1,5 @@
+-- Where n is 0 the coordinate is A's (`nearest-zero`), else it is the rounded quotient (`nearest-pos`). Both products
+-- are below 2^33 (`product-lt`), so that no sum wraps.
 use borrow.Author.Needs.{needs}
 use mathlib.Core.Path.{sym}
 use Prim.Native.Nat.{_-_, _*_, _<_}

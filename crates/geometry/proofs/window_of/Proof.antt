@@ -1,3 +1,5 @@
+-- One past the right and one past the bottom do not wrap: a corner's coordinates are below 131,072 (`right-most`,
+-- `bottom-most`).
 use borrow.Author.Needs.{needs}
 use native.Mathlib.Omega.{arith}
 use Rattle.geometry.specs.Clip.{windowOf}
