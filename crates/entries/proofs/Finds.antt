@@ -1,4 +1,4 @@
--- What is decoded at a place decides whether it is legal.
+-- Whether a place is legal: what is decoded there decides, and a legal one lies in list memory.
 -- Assumes nothing.
 use mathlib.Core.Path.{_≡_, _∙_, ap, sym}
 use mathlib.Core.Bool.{true, false≢true}

@@ -10,8 +10,8 @@ use Rattle.entries.specs.declared.decoding.Decoded.{Decoded}
 use Rattle.entries.specs.declared.decoding.Decoded.the-variants.{Whole, Nothing}
 use Rattle.entries.specs.declared.fields.Command.{Command}
 
--- "BITBLT: NLST, PRST zero"; KEY only without SOLID. STPL is legal since 02, R-2: "6 stays for KEY with STPL and for TRNSP with
--- neither STPL nor SOLID."
+-- "BITBLT: .. NLST, PRST zero"; KEY only without SOLID. STPL is legal since 02, R-2: "6 stays for KEY with STPL and for
+-- TRNSP with neither STPL nor SOLID."
 abbrev pub blitLegal : Command → Bool
 blitLegal c =
     not (c .nlst)

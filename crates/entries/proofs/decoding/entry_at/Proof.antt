@@ -1,3 +1,5 @@
+-- Past list memory there is no entry (`decoded-none`); else its five bytes lie there and are the entry
+-- (`decoded-whole`).
 use borrow.Author.Needs.{needs}
 use mathlib.Core.Path.{sym}
 use Rattle.entries.proofs.Decodes.{decoded-none, decoded-whole}

@@ -1,3 +1,4 @@
+-- Each return is the case of `lengthOf` that the test of PLEN chose.
 use borrow.Author.Tests.{eq-eqb, ne-eqb}
 use Rattle.entries.specs.Fields.{lengthOf}
 use Rattle.entries.proofs.fields.pattern_length.Statement.{statement}

@@ -1,3 +1,4 @@
+-- What `entry_at` found decides (`legal-by`): an entry by its own test, and where there is none, nothing is legal.
 use borrow.Author.Needs.{needs}
 use mathlib.Core.Path.{_∙_}
 use Rattle.entries.proofs.Finds.{legal-by}

@@ -1,3 +1,5 @@
+-- By the register: CMD (`cmd-held`), those of one byte (`byte-held`), PCTRL (`pctrl-held`), XY2 (`size-held`) and XY3
+-- (`direction-held`). The others up to 12 hold any word, and past 12 there is no register (`point-held`).
 use borrow.Author.Needs.{needs}
 use mathlib.Core.Path.{_∙_}
 use native.Mathlib.Omega.{arith}
