@@ -1,4 +1,5 @@
--- What the choice of the next step says of a list.
+-- The next step of a list: what it says of the list, the tests that choose it, and that a list of legal entries in
+-- memory is never broken.
 -- Assumes nothing.
 use mathlib.Core.Path.{_≡_, refl, ap, ap₂, sym, subst, _∙_}
 use mathlib.Core.Bool.{Bool, true, false, not, cond, _&&_}

@@ -1,4 +1,5 @@
--- Entries that a store does not touch: none that the list holds, and they read the same after it.
+-- A store that does not touch a list: it writes no entry that the list holds, and what is left of the list reads the
+-- same after it. And the test of touching without a sum.
 -- Assumes nothing.
 use mathlib.Core.Path.{_≡_, refl, ap₂, sym, _∙_}
 use mathlib.Core.Bool.{Bool, true, false, _&&_, false≢true}

@@ -42,7 +42,7 @@ nextOf l c underWay = cond underWay Visit (cond (leb (endOf (c .span)) (c .next)
 abbrev pub fetchedOf : Cursor → Cursor
 fetchedOf c = record { span = c .span; next = c .next + 1 }
 
--- "A list ends with the step after which it has neither entries nor pixels left."
+-- "A list ends with the step after which it has neither entries nor pixels left".
 abbrev pub endedOf : Cursor → Bool → Bool
 endedOf c underWay = not underWay && leb (endOf (c .span)) (c .next)
 

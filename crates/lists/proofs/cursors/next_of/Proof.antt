@@ -1,3 +1,5 @@
+-- With a command under way the next step is a visit (`next-visit`), at the list's end there is none (`next-ended`), and
+-- else what is read at the next place decides (`next-read`).
 use borrow.Author.Needs.{needs}
 use mathlib.Core.Path.{_≡_, sym, _∙_}
 use Prim.Native.Nat.{_<_}

@@ -1,5 +1,5 @@
--- The loop's invariant: what is found from `place` on among `left` entries is what is found in the whole list. The measure is
--- `left`; `place` does not wrap, as a legal entry lies in memory.
+-- The loop's invariant: what is found from `place` on among `left` entries is what is found in the whole list. The
+-- measure is `left`; `place` does not wrap, as a legal entry lies in list memory (`legal-inside`).
 use mathlib.Core.Path.{_≡_, refl, sym, _∙_}
 use mathlib.Core.Bool.{true}
 use native.Mathlib.Omega.{arith}

@@ -1,3 +1,4 @@
+-- Each return is the case of `cursorOk` that `under_way` chose; the sum of two 32-bit numbers fits 64 bits.
 use borrow.Author.Needs.{needs}
 use Rattle.lists.proofs.cursors.Cursor.well_formed.Statement.{statement}
 use Rattle.lists.proofs.cursors.Cursor.well_formed.Tie as tie

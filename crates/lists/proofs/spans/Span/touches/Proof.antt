@@ -1,3 +1,5 @@
+-- The gap from `first` to the start is below n just where n is not 0 and the start is below first + n, a sum that might
+-- wrap (`touch-by-gap`).
 use borrow.Author.Needs.{needs}
 use Rattle.lists.proofs.Held.{touch-by-gap}
 use Rattle.lists.proofs.spans.Span.touches.Statement.{statement}
