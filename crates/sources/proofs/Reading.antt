@@ -1,4 +1,4 @@
--- The source of a blit's cell, by the tests that it passes; of bits, by the byte that holds the bit.
+-- The source of a visit, by the tests that it passes; of a blit's bits, by the byte that holds the bit.
 -- Assumes nothing.
 use Rattle.geometry.specs.declared.Visit.the-variants.{At as VisitAt}
 use mathlib.Core.Path.{_≡_, ap, sym, _∙_}

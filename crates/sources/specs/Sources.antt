@@ -54,7 +54,7 @@ bitOf width buffer p =
     let y = p .y - origin in
     eqb (bit (7 - x % 8) (getD buffer (y * width + x / 8) 0)) 1
 
--- "A 1 draws FORE; a 0 draws BACK, or nothing with TRNSP." "A bit outside the buffer draws nothing."
+-- "A 1 draws FORE; a 0 draws BACK, or nothing with TRNSP." "a bit outside the buffer draws nothing."
 abbrev pub stippledAt : Command → Registers → Extent → List ℕ → Visit → Source
 stippledAt c g extent buffer (VisitAt p) =
     cond (inBuffer (8 * extent .width) (extent .height) p) (byBit c g (bitOf (extent .width) buffer p)) Nothing

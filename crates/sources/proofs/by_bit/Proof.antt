@@ -1,3 +1,4 @@
+-- Each return is the case of `byBit` that the bit and TRNSP chose.
 use Rattle.sources.proofs.by_bit.Statement.{statement}
 use Rattle.sources.proofs.by_bit.Tie as tie
 

@@ -1,3 +1,4 @@
+-- A byte of a buffer fits 32 bits; past the end `getD` gives its default, 0 (`List·getD-eq-default`).
 use borrow.Author.Needs.{needs}
 use native.Mathlib.Omega.{arith}
 use mathlib.Core.Path.{sym}

@@ -1,3 +1,5 @@
+-- From the cell to its pixel (`copied-by`), from the pixel to its place (`read-by`), and from the byte there to KEY
+-- (`key-is`): each return goes as far on this way as its tests did.
 use borrow.Author.Needs.{needs}
 use mathlib.Core.Path.{_≡_, _∙_}
 use mathlib.Core.Bool.{Bool, true, false, cond, _&&_}

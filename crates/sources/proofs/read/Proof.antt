@@ -1,3 +1,4 @@
+-- By STPL: bits (`stippled`), or bytes (`copied`).
 use borrow.Author.Needs.{needs}
 use mathlib.Core.Path.{_∙_}
 use Rattle.lemmas.proofs.Booleans.{first-of, second-of}

@@ -1,3 +1,5 @@
+-- By the command: FORE with SOLID (`source-solid`), what a blit reads in its source buffer (`source-read`), or
+-- else the pattern's bit (`source-dash`).
 use borrow.Author.Needs.{needs}
 use mathlib.Core.Path.{_≡_, sym, _∙_}
 use mathlib.Core.Bool.{true, false}

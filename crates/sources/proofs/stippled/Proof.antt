@@ -1,3 +1,5 @@
+-- From the cell to its bit (`stippled-by`): left of the buffer there is none (`left-of-bits`), and else the place of
+-- the byte that holds it decides (`bit-by`).
 use borrow.Author.Needs.{needs}
 use mathlib.Core.Path.{ap, _∙_}
 use Prim.Native.Nat.{_-_, _%_}
