@@ -3,13 +3,13 @@ use Prim.Native.Nat.{ℕ}
 use Rattle.answers.specs.declared.Status.{Status}
 use Rattle.answers.specs.declared.Status.the-variants.{Done, Malformed, WrongSize, NoEntries, PastTheEnd, SlotsTaken, IllegalEntry, SlotTaken, EntryHeld, IllegalFetch}
 
--- The paper's number, place and steps.
+-- Document 01's number, the place and the steps.
 pub record Report : Type 0 where
   pub number : ℕ
   pub place : ℕ
   pub steps : ℕ
 
--- "The place is zero but in 6, the step count but in 9 and in a done run."
+-- "The place is zero but in 6, the step count but in 9 and in a done run".
 abbrev pub report : ℕ → ℕ → ℕ → Report
 report number place steps = record { number = number; place = place; steps = steps }
 
