@@ -1,4 +1,4 @@
--- A command's pixels are few enough for 32 bits.
+-- A command's pixels are few enough for 32 bits, and registers and last point alone say how many there are.
 -- Assumes nothing.
 use mathlib.Core.Path.{_≡_, ap₂}
 use Prim.Native.Nat.{ℕ, _<_}

@@ -57,8 +57,8 @@ inDashes c = isLine c && not (c .solid)
 unfoldable pub patternAfter : Engine → Pattern
 patternAfter e = cond (inDashes (commandIn e)) (nextOf (patternControlOf (e .registers .pctrl)) (e .pattern)) (e .pattern)
 
--- One pixel fewer to visit; "the last point is XY1 of the latest finished command: it is set in the step that visits the
--- command's last pixel".
+-- One pixel fewer to visit; "The last point is XY1 of the latest finished command .. it is set in the step that visits
+-- the command's last pixel".
 unfoldable pub advancedOf : Extent → Engine → Engine
 advancedOf extent e =
     cond (ltb (e .visited + 1) (countOf extent e))

@@ -96,7 +96,7 @@ impl Engine {
         after
     }
 
-    // The pattern state once an entry is written.
+    // The pattern state once a register is written.
     fn pattern_set(self, number: u32) -> Pattern
         ensures { λ r. ⌜ r ≡ patternSet number self ⌝ }
     {

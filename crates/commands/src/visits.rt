@@ -27,7 +27,7 @@ impl Engine {
         if c.is_polyline() { self.last } else { g.xy0 }
     }
 
-    // The pixels that the command in CMD visits.
+    // How many pixels the command in CMD visits.
     pub fn count(self, extent: Extent) -> usize
         ensures { λ r. ⌜ r ≡ countOf extent self ⌝ }
     {

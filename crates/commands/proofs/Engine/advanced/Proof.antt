@@ -1,3 +1,5 @@
+-- Each return is the case of `advancedOf` that the test chose; visited + 1 fits 32 bits where it is below the count,
+-- which does (`pixels-lt`).
 use Rattle.commands.proofs.Bounds.{pixels-lt}
 use Rattle.commands.specs.Steps.{advancedOf}
 use borrow.Author.Tests.{lt-ltb, le-ltb}

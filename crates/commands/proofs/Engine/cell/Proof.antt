@@ -1,3 +1,4 @@
+-- A blit's visit has its cell (`cell-blit`), and another command's has none (`cell-none`).
 use Rattle.commands.proofs.Tests.{cell-blit, cell-none}
 use Rattle.entries.specs.Fields.{isBlit}
 use Rattle.commands.specs.Visits.{commandIn}

@@ -1,3 +1,5 @@
+-- With no command under way the visited pixels are to be 0 (`command-resting`), else fewer than the command's
+-- (`command-going`).
 use borrow.Author.Tests.{not-true, not-false}
 use Rattle.commands.proofs.Sound.{command-resting, command-going}
 use borrow.Author.Needs.{needs}

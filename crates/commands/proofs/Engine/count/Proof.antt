@@ -1,3 +1,5 @@
+-- By the kind of the decoded command, which is that in CMD (`test-is`): the pixels of a blit (`count-blit`), those of a
+-- line (`count-line`), or none (`count-none`).
 use Rattle.commands.proofs.Tests.{count-blit, count-line, count-none}
 use Rattle.entries.specs.Fields.{isBlit, isLine}
 use Rattle.commands.specs.Visits.{commandIn}

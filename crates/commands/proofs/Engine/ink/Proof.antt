@@ -1,3 +1,5 @@
+-- Without a value nothing is drawn (`ink-nothing`); with one the place decides (`ink-value`): outside, and past the
+-- buffer's end (`ink-past`), the buffer stays, and else one byte is set (`ink-at`).
 use borrow.Author.Needs.{needs}
 use mathlib.Core.Path.{_∙_}
 use Rattle.commands.proofs.Marks.{ink-nothing, ink-value, ink-past, ink-at}

@@ -1,3 +1,4 @@
+-- By the kind of the decoded command: a blit is empty where its count is 0, a line where what is left out is all of it.
 use Rattle.commands.specs.Visits.{commandIn}
 use Rattle.entries.specs.Fields.{isBlit, isLine}
 use lib.Dec.{eqb}

@@ -1,3 +1,4 @@
+-- The test of PLINE on the decoded command is that on the command in CMD (`test-is`); it picks the last point or XY0.
 use Rattle.lemmas.proofs.Booleans.{first-of, second-of}
 use Rattle.entries.specs.Fields.{isPolyline}
 use mathlib.Core.Bool.{true, false}

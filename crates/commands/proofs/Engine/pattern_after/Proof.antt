@@ -1,3 +1,5 @@
+-- The test on the decoded command is `inDashes` (`dash-is`): only a line without SOLID moves the pattern
+-- (`pattern-by`).
 use Rattle.commands.proofs.Marks.{pattern-by}
 use Rattle.commands.proofs.Tests.{dash-is}
 use mathlib.Core.Bool.{true, false}

@@ -1,3 +1,4 @@
+-- The test on the decoded command is `setsPattern` (`sets-is`); each return is the case of `patternSet` that it chose.
 use Rattle.commands.proofs.Tests.{sets-is}
 use mathlib.Core.Bool.{true, false}
 use mathlib.Core.Path.{_∙_}

@@ -1,3 +1,5 @@
+-- By the kind of the decoded command: a blit's visit lies at its cell (`position-blit`), a line's at its pixel
+-- (`position-line`), and no other command has one (`position-none`).
 use Rattle.commands.proofs.Tests.{position-blit, position-line, position-none}
 use Rattle.entries.specs.Fields.{isBlit, isLine}
 use Rattle.commands.specs.Visits.{commandIn}

@@ -1,3 +1,5 @@
+-- Where the visit lies decides (`target-by`): nowhere, or outside the clip (`clipped`), it has no place; else it has
+-- that of its pixel in the buffer (`unclipped`).
 use mathlib.Core.Bool.{true, false}
 use mathlib.Core.Path.{_∙_}
 use Rattle.commands.proofs.Tests.{clip-is, target-by, clipped, unclipped}

@@ -1,3 +1,5 @@
+-- Another register than XY1 triggers nothing (`triggers-nothing`). XY1 triggers a command that draws, and one without
+-- pixels has finished at once (`triggers-command`).
 use Rattle.commands.proofs.Triggers.{triggers-nothing, triggers-command}
 use Rattle.entries.specs.Fields.{draws}
 use borrow.Author.Tests.{not-true, not-false}

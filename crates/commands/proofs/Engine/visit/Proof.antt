@@ -1,3 +1,5 @@
+-- Place and source are found at one cell, before a byte is drawn; then the buffer that the command draws on is the one
+-- that changes (`visit-virtual`, `visit-display`).
 use Rattle.commands.proofs.Marks.{visit-virtual, visit-display}
 use borrow.Author.Needs.{needs}
 use Rattle.commands.proofs.Engine.visit.Statement.{statement}

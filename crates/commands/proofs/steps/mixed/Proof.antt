@@ -1,3 +1,4 @@
+-- Of value and mask only the low eight bits count (`newByte-low`).
 use Rattle.raster.proofs.Rule.{newByte-low}
 use mathlib.Core.Path.{_∙_}
 use borrow.Author.Needs.{needs}
