@@ -198,7 +198,7 @@ module _ (l : List ℕ) (extent : Extent) where
               ∙ ap (longer k) (sym (by-next rest c s (Take x) e)) ∙ ap (λ i. longer k (from i c s)) (sym split) ∙ going .same;
         }
 
-    -- the next entry, which is taken, has a number of 32 bits
+    -- the number of the entry after one that is taken fits 32 bits
     pub going-room : endOf (c₀ .span) < 4294967296 → (x : Entry) → nextOf l c (s .engine .«under_way») ≡ Take x → c .next + 1 < 4294967296
     going-room fits x e =
         let same : endOf (c .span) ≡ endOf (c₀ .span) = ap endOf (going .span-same) in

@@ -21,7 +21,8 @@ use Rattle.strokes.specs.declared.Dashes.{Dashes}
 use Rattle.commands.specs.Visits.{commandIn, lineStart, countOf}
 use Rattle.commands.specs.declared.Engine.{Engine}
 
--- The window of clip and buffer, and the pen of a value. FORE, BACK, MASK and KEY are bytes in a legal register file.
+-- The window of clip and buffer, and the pen of a value. FORE, BACK, MASK and KEY are bytes where the registers are
+-- legal.
 abbrev pub windowIn : Extent → Engine → Window
 windowIn extent e = windowOf extent (commandIn e .clip) (e .registers .clptl) (e .registers .clpbr)
 

@@ -42,7 +42,8 @@ runFrom zero l extent c s = stopped c s false
 runFrom (suc budget) l extent c s =
     byStep extent (nextOf l c (s .engine .«under_way»)) c s (runFrom budget l extent c (visitOf extent s)) (runFrom budget l extent)
 
--- Entries are numbered in 32 bits: of a list that ends past them, which no record holds, nothing is run.
+-- Entries are numbered in 32 bits: of a list that ends past them, which no well formed record holds, nothing
+-- is run.
 unfoldable pub listRun : ℕ → List ℕ → Extent → Cursor → Scene → Reached
 listRun budget l extent c s = cond (ltb (endOf (c .span)) 4294967296) (runFrom budget l extent c s) (stopped c s false)
 

@@ -1,5 +1,6 @@
--- The loop's invariant is `Going`: k steps are done, and the rest of the run is that from here. A turn is many visits, or one entry;
--- the measure is what is left of the budget.
+-- The loop's invariant is `Going`: k steps are done, and the rest of the run is that from here. A turn is many visits,
+-- or one entry; the measure is what is left of the budget. The next entry's number does not wrap, as the list's end
+-- fits 32 bits (`going-room`).
 use Rattle.leaps.proofs.Running.{Going, going-start, going-visits, going-takes, going-room, going-stops, going-spent}
 use Rattle.lists.proofs.Fetches.{chosen}
 use Rattle.lists.specs.declared.cursors.Next.the-variants.{Ended, Visit, Broken}

@@ -1,3 +1,4 @@
+-- A list whose end fits 32 bits is run by `run_from` (`run-fits`); of another nothing is run (`run-none`).
 use Rattle.leaps.proofs.Running.{run-fits, run-none}
 use Rattle.commands.specs.Steps.{scene}
 use native.Mathlib.Omega.{arith}

@@ -1,3 +1,5 @@
+-- The lesser of the budget and of what is left, at least 1, is a number of visits before each of which the command is
+-- under way (`visits-done`).
 use Rattle.leaps.proofs.Running.{visits-done}
 use Rattle.commands.specs.Steps.{scene}
 use Prim.Native.Nat.{_-_, max}

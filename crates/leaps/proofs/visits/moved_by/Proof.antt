@@ -1,3 +1,5 @@
+-- Each return is the case of `movedBy` that the test chose (`moved-within`, `moved-over`); visited + n fits 32 bits
+-- where it is below the count, which does (`pixels-lt`).
 use borrow.Author.Needs.{needs}
 use mathlib.Core.Path.{sym}
 use native.Mathlib.Omega.{arith}

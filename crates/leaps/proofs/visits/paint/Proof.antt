@@ -1,3 +1,5 @@
+-- SOLID paints with FORE (`solid-paint`); else STPL, and whether one buffer is read and drawn on, choose the paint
+-- (`read-paint`).
 use borrow.Author.Needs.{needs}
 use mathlib.Core.Bool.{true, false}
 use Rattle.leaps.proofs.Rows.{solid-paint, read-paint}

@@ -1,3 +1,4 @@
+-- Each return is the case of `strokeIn` that SOLID chose: one pen (`stroke-solid`), or dashes (`stroke-dashes`).
 use borrow.Author.Needs.{needs}
 use Rattle.leaps.proofs.Strokes.{stroke-solid, stroke-dashes}
 use Rattle.leaps.proofs.visits.stroke.Statement.{statement}

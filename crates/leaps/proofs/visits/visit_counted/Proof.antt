@@ -1,3 +1,5 @@
+-- The tests that hold are `goesByRows` and `goesByStroke`, which `visit_rows` and `visit_stroke` ask; each callee is n
+-- visits.
 use Rattle.leaps.specs.Leaps.{goesByRows, goesByStroke}
 use borrow.Author.Needs.{needs}
 use Rattle.leaps.proofs.visits.visit_counted.Statement.{statement}

@@ -1,3 +1,5 @@
+-- The loop's invariant: k visits are done, k at most n, and the buffers have their lengths; each turn is one visit more
+-- (`visits-more`). The measure is n - k.
 use mathlib.Core.Path.{_≡_, refl, ap, _∙_}
 use Prim.Native.Nat.{_-_, _≤_}
 use native.Mathlib.Omega.{arith}

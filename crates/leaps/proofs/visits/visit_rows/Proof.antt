@@ -1,3 +1,5 @@
+-- What `draw_blit` leaves on the buffer that is drawn on is what n visits leave there (`rows-are`), by what
+-- `goesByRows` says of engine and buffers (`goes-of`).
 use borrow.Author.Needs.{needs}
 use mathlib.Core.Path.{ap, _∙_}
 use mathlib.Core.Bool.{true, false}

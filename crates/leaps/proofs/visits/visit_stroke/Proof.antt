@@ -1,3 +1,5 @@
+-- What `stroke` leaves on the buffer that is drawn on is what n visits leave there (`stroke-is`), by what
+-- `goesByStroke` says of engine and buffers (`goes-of`).
 use borrow.Author.Needs.{needs}
 use mathlib.Core.Bool.{true, false}
 use Rattle.strokes.specs.Strokes.{dashed}
