@@ -1,4 +1,5 @@
--- What post, store and window write answer, by the tests that a call passes.
+-- What post, store and window write answer, by the tests that a call passes; that a refusal leaves the memory as it
+-- was; and bytes put into a memory one by one.
 -- Assumes nothing.
 use mathlib.Core.Path.{_≡_, refl, ap, sym, _∙_}
 use mathlib.Core.Bool.{Bool, true, false, cond, _&&_, _||_}

@@ -1,4 +1,4 @@
--- What a well formed slot says, and slots that are well formed.
+-- What sizes in limits and well formed spans, cursors and slots say, and slots that are well formed.
 -- Assumes nothing.
 use mathlib.Core.Path.{_≡_, refl, sym, _∙_}
 use mathlib.Core.Bool.{Bool, true, false, _&&_}

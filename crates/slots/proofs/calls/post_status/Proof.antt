@@ -1,3 +1,5 @@
+-- Each return is the ground of the first test that refuses (`post-wrong-size`, `post-none`, `post-past`, `post-full`),
+-- or what the first illegal entry says (`post-judged`). No sum start + count is taken, which might wrap.
 use borrow.Author.Needs.{needs}
 use mathlib.Core.Path.{_≡_}
 use Prim.Native.Nat.{_+_, _<_}

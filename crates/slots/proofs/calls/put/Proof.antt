@@ -1,3 +1,5 @@
+-- The loop's invariant: the first k bytes are pasted into the memory, which has room for all; each turn is one more
+-- (`put-more`), and all of them are `putInto` (`put-all`). The measure is the number of bytes left.
 use mathlib.Core.Path.{_≡_, refl, ap, _∙_}
 use Prim.Native.Nat.{_+_, _-_, _≤_}
 use native.Mathlib.Omega.{arith}

@@ -1,3 +1,5 @@
+-- Each refusal is the ground of its test (`store-wrong-size`, `store-past`, `store-held`); else the bytes have room in
+-- list memory (`room`) and are put there (`store-done`).
 use borrow.Author.Needs.{needs}
 use mathlib.Core.Path.{_≡_, ap₂, sym, _∙_}
 use mathlib.Core.Bool.{Bool, true, false, _&&_, _||_}

@@ -1,3 +1,5 @@
+-- Each refusal is the ground of its test (`write-wrong-size`, `write-past`, `write-busy`); else the bytes have room in
+-- the buffer and are put there (`write-done`). The area fits 64 bits (`product-fits`).
 use borrow.Author.Needs.{needs}
 use mathlib.Core.Path.{_≡_}
 use mathlib.Core.Bool.{true, _&&_}

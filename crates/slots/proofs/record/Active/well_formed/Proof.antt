@@ -1,3 +1,4 @@
+-- Each return is the case of `activeOk` that `taken` chose.
 use Rattle.lemmas.proofs.Booleans.{first-of, second-of}
 use lib.Dec.{eqb}
 use mathlib.Core.Bool.{_&&_}

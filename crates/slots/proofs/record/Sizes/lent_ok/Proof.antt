@@ -1,3 +1,4 @@
+-- The product of two 32-bit numbers fits 64 bits (`product-fits`).
 use Rattle.geometry.proofs.Clips.{product-fits}
 use native.Mathlib.Omega.{arith}
 use borrow.Author.Needs.{needs}

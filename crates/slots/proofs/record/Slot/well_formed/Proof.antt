@@ -1,3 +1,4 @@
+-- Each return is the case of `slotOk` that `taken` chose.
 use Rattle.lemmas.proofs.Booleans.{first-of, second-of}
 use mathlib.Core.Path.{_∙_}
 use borrow.Author.Needs.{needs}
