@@ -1,4 +1,4 @@
--- The steps of a run are the lesser of its budget and the steps left in both lists.
+-- A run that answers 0 reports the lesser of its budget and the steps left in both lists.
 -- Assumes nothing.
 use mathlib.Core.Path.{_≡_, refl, ap, ap₂, sym, _∙_}
 use mathlib.Core.Bool.{false}

@@ -20,9 +20,10 @@ toCome l b = restOf l (b .active .cursor) ++ restOf l (cursorOn (b .pending .spa
 abbrev pub stepsLeft : List ℕ → Machine → ℕ
 stepsLeft l m = stepsOf (m .board .sizes .extent) (sceneOf m) (toCome l (m .board))
 
--- What holds of runs; proved in proofs/Counts.antt and proofs/Keeps.antt.
+-- What holds of runs; proved in proofs/Counts.antt, Goes.antt and Keeps.antt.
 
--- "Run reports its steps: the lesser of the budget and the steps left in both lists, unless it answers 9."
+-- "Run takes a budget and reports its steps: the lesser of the budget and the steps left in both lists, unless it
+-- answers 9."
 abbrev pub LesserOfBudgetAndLeft : Type 0
 LesserOfBudgetAndLeft =
     (budget : ℕ) (l : List ℕ) (m : Machine) → wellFormed (m .board) ≡ true → runOf budget l m .report .number ≡ 0

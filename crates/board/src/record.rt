@@ -23,7 +23,7 @@ impl Board {
         a.taken | (!p.taken & !e.under_way)
     }
 
-    // Whether the record is one that the rules can lead to, as far as the paper has it checked: part by part.
+    // Whether the record is well formed: its parts, and what they are to one another.
     pub fn well_formed(self) -> bool
         ensures { λ r. ⌜ r ≡ wellFormed self ⌝ }
     {

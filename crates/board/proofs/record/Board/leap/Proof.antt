@@ -1,3 +1,4 @@
+-- What `run_list` ensures of the active list, with the record that `moved` settles, is a leap (`leap-is`).
 use Rattle.board.proofs.Goes.{leap-is}
 use Rattle.board.specs.Steps.{machine}
 use borrow.Author.Needs.{needs}

@@ -1,3 +1,4 @@
+-- The test is that the sizes are in limits, so that they fit 32 bits (`limits-of`).
 use Rattle.board.specs.Calls.{sizes, makeCall}
 use Rattle.slots.proofs.Slotted.{Limits, limits-of}
 use native.Mathlib.Omega.{arith}

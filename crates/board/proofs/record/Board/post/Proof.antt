@@ -1,3 +1,5 @@
+-- A malformed record is refused before the slots are asked (`post-malformed`); else they decide (`post-refused`,
+-- `post-done`). Start and count of a list that they take lie in list memory (`post-room`), so that they fit 32 bits.
 use Rattle.board.proofs.Replies.{post-malformed, post-refused, post-done, post-room}
 use Rattle.board.specs.Record.{wellFormed}
 use Rattle.slots.specs.Calls.{postReport}

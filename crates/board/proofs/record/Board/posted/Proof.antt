@@ -1,3 +1,4 @@
+-- Each return is the case of `postedOf` that the active slot chose.
 use Rattle.board.specs.Calls.{postedOf}
 use Rattle.lemmas.proofs.Booleans.{first-of, second-of}
 use borrow.Author.Needs.{needs}

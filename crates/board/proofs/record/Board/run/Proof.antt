@@ -1,3 +1,5 @@
+-- A malformed record and lent memories of another size are refused (`run-malformed`, `run-wrong-size`); else the answer
+-- is that of `run_steps` (`run-accepted`).
 use borrow.Author.Needs.{needs}
 use mathlib.Core.Path.{_≡_, sym, _∙_}
 use mathlib.Core.Bool.{true}

@@ -1,5 +1,5 @@
--- The loop's invariant is `Running`: k steps are done, and the rest of the run is that from here. A turn is a leap, the steps of one
--- list; the measure is what is left of the budget.
+-- The loop's invariant is `Running`: k steps are done, and the rest of the run is that from here. A turn is a leap, the
+-- steps of one list (`running-more`); the measure is what is left of the budget.
 use Rattle.board.proofs.Goes.{Running, running-start, running-more, running-broken, running-over}
 use Rattle.board.specs.Steps.{machine}
 use Rattle.lemmas.proofs.Booleans.{and-left, and-right}

@@ -1,3 +1,4 @@
+-- Each return is the case of `settledOf` that the end of the active list chose.
 use Rattle.board.specs.Steps.{settledOf}
 use Rattle.lemmas.proofs.Booleans.{first-of, second-of}
 use borrow.Author.Tests.{not-true, not-false}

@@ -1,3 +1,5 @@
+-- A malformed record is refused before the slots are asked (`store-malformed`); else their answer is given, with the
+-- record as it was (`store-by`).
 use Rattle.board.proofs.Replies.{store-malformed, store-by}
 use Rattle.board.specs.Record.{wellFormed}
 use Rattle.slots.specs.Calls.{storeReport}

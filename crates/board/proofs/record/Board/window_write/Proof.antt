@@ -1,3 +1,5 @@
+-- A malformed record is refused before the slots are asked (`write-malformed`); else their answer is given, with the
+-- record as it was (`write-by`).
 use Rattle.board.proofs.Replies.{write-malformed, write-by}
 use Rattle.board.specs.Record.{wellFormed}
 use Rattle.slots.specs.Calls.{writeReport}
