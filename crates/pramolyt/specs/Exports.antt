@@ -1,5 +1,5 @@
--- What each exported function does (01, What the host hears): the answer's number, the image after the call, and each memory
--- that it is lent to write.
+-- What each exported function does (01, What the host hears): the answer's number, the image after the call, a post's
+-- place and a run's steps, and each memory that it is lent to write.
 use mathlib.Core.Path.{_≡_}
 use mathlib.Core.Bool.{cond}
 use mathlib.Core.List.{List}
@@ -10,7 +10,7 @@ use Rattle.board.specs.Steps.{machine}
 use Rattle.board.specs.Runs.{Outcome, runCall}
 use Rattle.pramolyt.specs.Image.{words, wordsOf, boardOf, flagsOk}
 
--- An image with a flag that is neither 0 nor 1 is no record's: "1, record malformed".
+-- An image with a flag that is neither 0 nor 1 is no record's: the answer is 1, "record malformed".
 abbrev pub ofImage : {A : Type 0} → List ℕ → A → A → A
 ofImage w done refused = cond (flagsOk w) done refused
 
@@ -41,7 +41,7 @@ posted number words place = record { number = number; words = words; place = pla
 abbrev pub postedBy : Reply → Posted
 postedBy r = posted (r .report .number) (wordsOf (r .board)) (r .report .place)
 
--- "Post: 1 to 6." "The place is zero but in 6."
+-- "Post: 1 to 6." "The place is zero but in 6".
 unfoldable pub postImage : List ℕ → List ℕ → ℕ → ℕ → Posted
 postImage w list start count = ofImage w (postedBy (postCall list start count (boardOf w))) (posted 1 w 0)
 
@@ -86,7 +86,8 @@ unfoldable pub runImage : List ℕ → ℕ → List ℕ → List ℕ → List �
 runImage w budget list display virt =
     ofImage w (ranBy (runCall budget list (machine (boardOf w) display virt))) (ran 1 w 0 display virt)
 
--- ---- refusals: "record as given", and "Lent bytes that no rule writes stay, and in a refusal other than 9 all stay."
+-- ---- refusals: "record as given", and "Lent bytes that no rule writes stay, and in a refusal other than 9 all stay.";
+-- proved in proofs/Refusals.antt
 abbrev pub RefusedPost : Type 0
 RefusedPost =
     (w list : List ℕ) (start count : ℕ) → length w ≡ words → let r = postImage w list start count in

@@ -15,7 +15,7 @@ use Rattle.slots.specs.declared.record.Sizes.{Sizes}
 use Rattle.slots.specs.declared.record.Slot.{Slot}
 use Rattle.board.specs.declared.record.Board.{Board}
 
--- Where each part begins, in the paper's order, and how many words there are.
+-- Where each part begins, in that order, and how many words there are.
 abbrev pub sizesAt : ℕ
 sizesAt = 0
 
@@ -141,10 +141,10 @@ boardOf w =
 abbrev pub flagsOk : List ℕ → Bool
 flagsOk w = ltb (getD w activeAt 0) 2 && ltb (getD w pendingAt 0) 2 && ltb (getD w commandAt 0) 2
 
--- A record comes back from its image.
+-- A record comes back from its image; proved in proofs/RoundTrips.antt.
 abbrev pub DecodesEncoded : Type 0
 DecodesEncoded = (b : Board) → boardOf (wordsOf b) ≡ b
 
--- An image whose flags are 0 or 1 comes back from its record, word for word.
+-- An image whose flags are 0 or 1 comes back from its record, word for word; proved there too.
 abbrev pub EncodesDecoded : Type 0
 EncodesDecoded = (w : List ℕ) → length w ≡ words → flagsOk w ≡ true → wordsOf (boardOf w) ≡ w

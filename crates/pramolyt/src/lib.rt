@@ -1,5 +1,5 @@
-// The exported C functions, as include/pramolyt.h declares them. The board record is an image of 32-bit words, which the caller
-// keeps (document 01, What the engine has); each call answers the paper's number (What the host hears).
+// The exported C functions, as include/pramolyt.h declares them. The board record is an image of 32-bit words, which
+// the caller keeps; each call answers document 01's number (What the engine has, and What the host hears).
 ghost use mathlib.Core.Path.{_≡_};
 ghost use Rattle.pramolyt.specs.Exports.{made, makeImage, posted, postImage, changed, storeImage, writeImage, ran, runImage};
 

@@ -1,3 +1,4 @@
+-- The image is that of the record that `make` returns, done or refused (`make-done`).
 use borrow.Author.Needs.{needs}
 use Rattle.pramolyt.proofs.Calls.{make-done}
 use Rattle.pramolyt.proofs.pramolyt_make.Statement.{statement}

@@ -1,3 +1,5 @@
+-- An image with a bad flag is refused as it is (`post-refused`); else the answer is that of the call on its record, and
+-- the image after it is the record's (`post-done`).
 use borrow.Author.Needs.{needs}
 use Rattle.pramolyt.proofs.Calls.{post-refused, post-done}
 use Rattle.pramolyt.proofs.pramolyt_post.Statement.{statement}

@@ -1,3 +1,5 @@
+-- An image with a bad flag is refused as it is (`run-refused`); else the answer is that of the call on its record, and
+-- the image after it is the record's (`run-done`).
 use borrow.Author.Needs.{needs}
 use Rattle.pramolyt.proofs.Calls.{run-refused, run-done}
 use Rattle.pramolyt.proofs.pramolyt_run.Statement.{statement}

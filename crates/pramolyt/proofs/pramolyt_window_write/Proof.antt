@@ -1,3 +1,5 @@
+-- An image with a bad flag is refused as it is (`write-refused`); else the answer is that of the call on its record,
+-- and the image after it is the record's (`write-done`).
 use borrow.Author.Needs.{needs}
 use Rattle.pramolyt.proofs.Calls.{write-refused, write-done}
 use Rattle.pramolyt.proofs.pramolyt_window_write.Statement.{statement}

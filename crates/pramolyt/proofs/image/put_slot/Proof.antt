@@ -1,3 +1,4 @@
+-- `putWords` counts the third word's place as at + 1 + 1, which is at + 2.
 use native.Mathlib.Omega.{arith}
 use Prim.Native.Nat.{_+_}
 use mathlib.Core.Path.{_≡_}
