@@ -1,4 +1,4 @@
--- P1 to P12.
+-- P1 to P12 hold, as rows of one statement.
 -- Assumes nothing.
 use Rattle.raster.proofs.Examples.{p1, p2, p3}
 use Rattle.geometry.proofs.Examples.{p4, p5, p6}

@@ -1,4 +1,4 @@
--- Demand 3.
+-- Demand 3: from a fresh board on, board and paper board are equal after each call, since every call keeps them so.
 -- Assumes nothing.
 use mathlib.Core.Path.{_≡_, refl, ap, ap₂, sym, subst, _∙_}
 use mathlib.Core.Bool.{true}

@@ -25,7 +25,7 @@ pub data Item : Type 0 where
   posted : Span → List Entry → Item
   window : ℕ → ℕ → List ℕ → Item
 
--- "It has buffers and list memory of its own, an empty queue, and all else that Steps and Pixels use."
+-- "It has buffers and list memory of its own .. an empty queue, and all else that Steps and Pixels use".
 pub record Paper : Type 0 where
   pub drawing : Scene
   pub list : List ℕ
@@ -34,7 +34,7 @@ pub record Paper : Type 0 where
 abbrev pub paper : Scene → List ℕ → List Item → Paper
 paper s l q = record { drawing = s; list = l; queue = q }
 
--- "A window write, in front, is done at once without a step and leaves."
+-- "A window write .. in front, it is done at once without a step and leaves."
 abbrev pub writtenTo : ℕ → ℕ → List ℕ → Scene → Scene
 writtenTo number offset bytes s =
     cond (eqb number 0) (scene (s .engine) (putInto (s .display) offset bytes) (s .virt))
@@ -50,7 +50,7 @@ unfoldable pub leaving : Scene → List ℕ → Span → List Entry → List Ite
 leaving s l span [] q = cond (s .engine .«under_way») (paper s l (posted span [] ∷ q)) (flushed s l q)
 leaving s l span (e ∷ es) q = paper s l (posted span (e ∷ es) ∷ q)
 
--- "Each is a step as above on these buffers, its entries coming from the copy in front."
+-- "Each is a step as above on these buffers, its entries coming from the copy in front".
 unfoldable pub fetching : Extent → Paper → Span → List Entry → List Item → Paper
 fetching extent p span [] q = p
 fetching extent p span (e ∷ es) q = leaving (takenOf extent (p .drawing) e) (p .list) span es q
@@ -68,7 +68,7 @@ unfoldable pub stepsOn : ℕ → Extent → Paper → Paper
 stepsOn zero extent p = p
 stepsOn (suc n) extent p = stepsOn n extent (stepOn extent p)
 
--- "It is fed each call's arguments, whether the answer was 0, and the steps a run reported."
+-- "It is fed each call's arguments .. whether the answer was 0, and the steps a run reported."
 unfoldable pub fed : Extent → Call → Bool → ℕ → Paper → Paper
 fed extent (post start count) true steps p =
     paper (p .drawing) (p .list) (p .queue ++ (posted (spanOf start count) (entriesFrom (p .list) start count) ∷ []))
