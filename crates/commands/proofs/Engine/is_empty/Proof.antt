@@ -1,4 +1,4 @@
--- By the kind of the decoded command: a blit is empty where its count is 0, a line where what is left out is all of it.
+-- By the kind of the decoded command: a blit has no pixel where its count is 0, a line where NLST leaves out its only one.
 use Rattle.commands.specs.Visits.{commandIn}
 use Rattle.entries.specs.Fields.{isBlit, isLine}
 use lib.Dec.{eqb}
