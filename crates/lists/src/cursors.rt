@@ -5,6 +5,7 @@ use crate::spans::Span;
 use entries::Decoded;
 use entries::Entry;
 use entries::entry_at;
+use entries::legal_data;
 
 // A list and its next entry.
 pub struct Cursor {
@@ -60,7 +61,8 @@ pub fn next_of(list: &[u8], c: Cursor, under_way: bool) -> Next
     let Decoded::Whole(entry) = fetched else {
         return Next::Broken;
     };
-    if entry.legal() {
+    let held = legal_data(entry.register, entry.word);
+    if (entry.spare == 0) & held {
         return Next::Take(entry);
     }
     Next::Broken

@@ -1,7 +1,7 @@
 -- With a command under way the next step is a visit (`next-visit`), at the list's end there is none (`next-ended`), and
 -- else what is read at the next place decides (`next-read`).
 use borrow.Author.Needs.{needs}
-use mathlib.Core.Path.{_≡_, sym, _∙_}
+use mathlib.Core.Path.{_≡_}
 use Prim.Native.Nat.{_<_}
 use Rattle.entries.specs.declared.decoding.Decoded.the-variants.{Whole}
 use Rattle.lists.specs.Spans.{endOf}
@@ -48,8 +48,8 @@ returns-3 c =
     let o = at .before .before in
     next-read _ _ _ (o .before .before .before .if1 .left) (more o) _ _ (at .entry-at .ensures) (c .enum-told .given .1)
 
-legal-requires : tie.Need-legal-requires
-legal-requires c κs = search needs
+legal-data-requires : tie.Need-legal-data-requires
+legal-data-requires c κs = search needs
 
 -- the entry that was read decides
 read : (c : tie.After-fetched) →
@@ -61,10 +61,10 @@ read c =
     next-read _ _ _ (o .before .before .before .if1 .left) (more o) _ _ (at .entry-at .ensures) (c .fetched .given .1)
 
 returns-4 : tie.Need-returns-4
-returns-4 c = rw (sym (c .before .legal .ensures) ∙ c .if3 .taken) at (read (c .before .before .before))
+returns-4 c = rw (← c .before .before .legal-data .ensures, c .if3 .taken) at (read (c .before .before .before .before))
 
 returns-5 : tie.Need-returns-5
-returns-5 c = rw (sym (c .before .legal .ensures) ∙ c .if3 .left) at (read (c .before .before .before))
+returns-5 c = rw (← c .before .before .legal-data .ensures, c .if3 .left) at (read (c .before .before .before .before))
 
 pub next-of-spec : {M : Type 1} → statement M
 next-of-spec =
@@ -79,6 +79,6 @@ next-of-spec =
     enum-known-fetched
     enum-told
     returns-3
-    legal-requires
+    legal-data-requires
     returns-4
     returns-5)
