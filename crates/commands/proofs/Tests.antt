@@ -18,7 +18,7 @@ use Rattle.geometry.specs.declared.Place.{Place}
 use Rattle.geometry.specs.declared.Place.the-variants.{Outside}
 use Rattle.geometry.specs.declared.Visit.{Visit}
 use Rattle.geometry.specs.declared.Visit.the-variants.{At as VisitAt, Past}
-use Rattle.entries.specs.Fields.{isBlit, isPolyline, isLine, draws, isTrigger}
+use Rattle.entries.specs.Fields.{isBlit, isLine, draws, isTrigger}
 use Rattle.entries.specs.declared.fields.Command.{Command}
 use Rattle.commands.specs.Visits.{commandIn, lineStart, countOf, cellAt, positionOf, clippedOut, throughTo, targetFrom}
 use Rattle.commands.specs.Steps.{inDashes, setsPattern}
@@ -115,10 +115,6 @@ module _ (e : Engine) (k : ℕ) (cell : Cell) where
   position-none h l =
       second-of (isLine (commandIn e)) onLine Past l
       ∙ second-of (isBlit (commandIn e)) onBlit (cond (isLine (commandIn e)) onLine Past) h
-
--- the start of a line
-pub start-is : (e : Engine) (t : Bool) → t ≡ isPolyline (commandIn e) → cond t (e .last) (e .registers .xy0) ≡ lineStart e
-start-is e t h = ap (λ t. cond t (e .last) (e .registers .xy0)) h
 
 -- a visit that was looked at decides where it goes
 pub target-by : (extent : Extent) (e : Engine) (k : ℕ) (cell : Cell) (v w : Visit) → v ≡ positionOf e k cell → v ≡ w

@@ -14,7 +14,7 @@ use Rattle.lemmas.specs.Memory.{putInto}
 use Rattle.lemmas.proofs.Booleans.{by-cases, both}
 use Rattle.lemmas.proofs.Memories.{put-before, put-after}
 use Rattle.entries.specs.Layout.{entryOf}
-use Rattle.lists.specs.Spans.{endOf, touches, TouchesWhatIsHeld}
+use Rattle.lists.specs.Spans.{endOf, touches, UntouchedIsNotHeld}
 use Rattle.lists.specs.Cursors.{entriesFrom, UntouchedStays}
 use Rattle.lists.specs.declared.spans.Span.{Span}
 
@@ -34,8 +34,8 @@ untouched s first n free j low high =
     (λ q. let past = ltb-false (s .start) (first + n) q in inr (omega arith)))
     (λ p. let none = ltb-false 0 n p in inr (omega arith)))
 
-pub touches-what-is-held : TouchesWhatIsHeld
-touches-what-is-held s first n k some free low high =
+pub untouched-is-not-held : UntouchedIsNotHeld
+untouched-is-not-held s first n k free low high =
     by-cases (leb (s .start) k)
     (λ t.
     by-cases (ltb k (endOf s))

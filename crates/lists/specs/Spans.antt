@@ -44,6 +44,6 @@ abbrev pub touches : Span → ℕ → ℕ → Bool
 touches s first n = ltb 0 n && ltb first (endOf s) && ltb (s .start) (first + n)
 
 -- Entries that do not touch a list are none that it holds; proved in proofs/Held.antt.
-abbrev pub TouchesWhatIsHeld : Type 0
-TouchesWhatIsHeld =
-    (s : Span) (first n k : ℕ) → 1 ≤ s .count → touches s first n ≡ false → first ≤ k → k < first + n → holds s k ≡ false
+abbrev pub UntouchedIsNotHeld : Type 0
+UntouchedIsNotHeld =
+    (s : Span) (first n k : ℕ) → touches s first n ≡ false → first ≤ k → k < first + n → holds s k ≡ false

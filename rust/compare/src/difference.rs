@@ -2,10 +2,10 @@
 
 use crate::lists::ENTRY;
 use crate::sides::{Engine, Reference};
-use reference::{Heard, NAMES, PaperBoard, Record};
+use reference::{NAMES, PaperBoard, Record, Report};
 
 /// What two sides answered.
-pub fn of_answers(engine: &Heard, reference: &Heard) -> Result<(), String> {
+pub fn of_answers(engine: &Report, reference: &Report) -> Result<(), String> {
     if engine == reference {
         return Ok(());
     }

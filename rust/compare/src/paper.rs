@@ -2,7 +2,7 @@
 
 use crate::call::Call;
 use crate::sides::Memories;
-use reference::{Heard, PaperBoard};
+use reference::{PaperBoard, Report};
 
 /// The paper board that begins with these bytes.
 pub fn begin(width: u64, height: u64, memories: &Memories) -> PaperBoard {
@@ -23,13 +23,18 @@ pub fn due(paper: &PaperBoard, call: &Call) -> u64 {
 }
 
 /// Feeds the paper board a call. What document 01 says of the answers in such a sequence must hold.
-pub fn follow(paper: &mut PaperBoard, call: &Call, heard: &Heard, due: u64) -> Result<(), String> {
-    if matches!(heard.number, 1 | 9) {
-        return Err(format!("answer {} in an honest sequence", heard.number));
+pub fn follow(
+    paper: &mut PaperBoard,
+    call: &Call,
+    report: &Report,
+    due: u64,
+) -> Result<(), String> {
+    if matches!(report.number, 1 | 9) {
+        return Err(format!("answer {} in an honest sequence", report.number));
     }
-    let done = heard.number == 0;
-    if done && heard.steps != due {
-        return Err(format!("{} steps, {due} by the paper board", heard.steps));
+    let done = report.number == 0;
+    if done && report.steps != due {
+        return Err(format!("{} steps, {due} by the paper board", report.steps));
     }
     match call {
         Call::Make { .. } => {}
@@ -41,7 +46,7 @@ pub fn follow(paper: &mut PaperBoard, call: &Call, heard: &Heard, due: u64) -> R
             bytes,
         } => paper.window_write(*number, *offset, bytes, done),
         Call::Run { .. } => {
-            paper.run(heard.steps);
+            paper.run(report.steps);
         }
     }
     Ok(())

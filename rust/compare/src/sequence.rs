@@ -135,21 +135,21 @@ impl Sequence<'_> {
         self.calls += 1;
         let call = self.call.insert(call);
         let due = self.paper.as_ref().map(|paper| paper::due(paper, call));
-        let heard = self.engine.call(call);
+        let report = self.engine.call(call);
         if self.shows {
-            println!("{}: {call}\n    {heard:?}", self.calls);
+            println!("{}: {call}\n    {report:?}", self.calls);
         }
         let expected = self.reference.call(call);
-        difference::of_answers(&heard, &expected)?;
+        difference::of_answers(&report, &expected)?;
         difference::of_sides(&self.engine, &self.reference)?;
         if let (Some(paper), Some(due)) = (&mut self.paper, due) {
-            paper::follow(paper, call, &heard, due)?;
+            paper::follow(paper, call, &report, due)?;
             if !matches!(call, Call::Make { .. }) {
                 difference::from_paper(&self.engine, &self.reference.record, paper)?;
             }
         }
-        self.tally.call(call, &heard, &self.reference.record);
-        if let (Call::Store { first, bytes }, 0) = (&*call, heard.number)
+        self.tally.call(call, &report, &self.reference.record);
+        if let (Call::Store { first, bytes }, 0) = (&*call, report.number)
             && !bytes.is_empty()
         {
             self.stored = (*first, (bytes.len() / lists::ENTRY) as u64);

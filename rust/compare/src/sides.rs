@@ -2,7 +2,7 @@
 
 use crate::call::Call;
 use pramolyt::{Answer, Board};
-use reference::{Heard, Record};
+use reference::{Record, Report};
 
 /// The memories that a side lends to its calls.
 #[derive(Clone)]
@@ -35,7 +35,7 @@ pub struct Engine {
 
 impl Engine {
     /// One call.
-    pub fn call(&mut self, call: &Call) -> Heard {
+    pub fn call(&mut self, call: &Call) -> Report {
         let Engine { board, memories } = self;
         let answer = match call {
             Call::Make {
@@ -66,7 +66,7 @@ impl Engine {
                 board.run(*budget, list, display, virt)
             }
         };
-        heard(answer)
+        report(answer)
     }
 }
 
@@ -75,8 +75,8 @@ fn size(number: u64) -> usize {
     number as usize
 }
 
-fn heard(answer: Answer) -> Heard {
-    Heard {
+fn report(answer: Answer) -> Report {
+    Report {
         number: answer.number(),
         place: answer.place(),
         steps: answer.steps(),
@@ -94,7 +94,7 @@ pub struct Reference {
 
 impl Reference {
     /// One call.
-    pub fn call(&mut self, call: &Call) -> Heard {
+    pub fn call(&mut self, call: &Call) -> Report {
         let Reference { record, memories } = self;
         match call {
             Call::Make {
@@ -102,9 +102,9 @@ impl Reference {
                 height,
                 entries,
             } => {
-                let (heard, made) = reference::make(*width, *height, *entries);
+                let (report, made) = reference::make(*width, *height, *entries);
                 *record = made;
-                heard
+                report
             }
             Call::Post { start, count } => reference::post(record, &memories.list, *start, *count),
             Call::Store { first, bytes } => {
@@ -131,7 +131,7 @@ impl Reference {
 
     /// The steps that a run would take, where they are fewer than the limit.
     pub fn steps_left(&self, limit: u64) -> Option<u64> {
-        let heard = self.clone().call(&Call::Run { budget: limit });
-        (heard.steps < limit).then_some(heard.steps)
+        let report = self.clone().call(&Call::Run { budget: limit });
+        (report.steps < limit).then_some(report.steps)
     }
 }

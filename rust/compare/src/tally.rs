@@ -4,7 +4,7 @@ use crate::call::{ALLOWED, CALLS, Call};
 use crate::sequence::{KINDS, Kind};
 use crate::stipples::{STIPPLES, Stipple, ignores_bits, reads_bits};
 use reference::entries::{Command, flag, opcode};
-use reference::{Heard, Record};
+use reference::{Record, Report};
 
 /// A kind of command, by name.
 type Commands = (&'static str, fn(Command) -> bool);
@@ -57,11 +57,11 @@ impl Tally {
     }
 
     /// Counts a call, with the record that it left.
-    pub fn call(&mut self, call: &Call, heard: &Heard, record: &Record) {
-        self.answers[call.kind()][heard.number as usize] += 1;
-        self.steps += heard.steps;
-        self.longest = self.longest.max(heard.steps);
-        if heard.steps > 0 && record.under_way == 1 {
+    pub fn call(&mut self, call: &Call, report: &Report, record: &Record) {
+        self.answers[call.kind()][report.number as usize] += 1;
+        self.steps += report.steps;
+        self.longest = self.longest.max(report.steps);
+        if report.steps > 0 && record.under_way == 1 {
             self.cut(record);
         }
     }

@@ -41,7 +41,7 @@ pub enum Answer {
 
 impl Answer {
     /// What the library wrote. It answers with no other numbers.
-    pub(crate) fn heard(number: u32, place: u64, steps: u64) -> Answer {
+    pub(crate) fn from_report(number: u32, place: u64, steps: u64) -> Answer {
         match (number, place, steps) {
             (0, 0, steps) => Answer::Done { steps },
             (1, 0, 0) => Answer::Malformed,

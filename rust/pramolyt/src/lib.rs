@@ -56,7 +56,7 @@ impl Board {
         let mut board = Board::from_words([u32::MAX; WORDS]);
         // SAFETY: the library writes the WORDS words of the record and nothing else.
         let number = unsafe { ffi::pramolyt_make(&mut board, width, height, entries) };
-        (Answer::heard(number, 0, 0), board)
+        (Answer::from_report(number, 0, 0), board)
     }
 
     /// The board with these words, as [`Board::words`] gave them. Any words will do: a record that no calls lead to is
@@ -97,7 +97,7 @@ impl Board {
         let number = unsafe {
             ffi::pramolyt_post(self, &mut place, list.as_ptr(), list.len(), start, count)
         };
-        Answer::heard(number, place, 0)
+        Answer::from_report(number, place, 0)
     }
 
     /// Stores bytes, 5 an entry, into list memory from entry `first` on.
@@ -113,7 +113,7 @@ impl Board {
                 bytes.len(),
             )
         };
-        Answer::heard(number, 0, 0)
+        Answer::from_report(number, 0, 0)
     }
 
     /// Writes bytes into a buffer from `offset` on. `number` is [`DISPLAY`] or [`VIRTUAL`], and `buffer` that buffer.
@@ -136,7 +136,7 @@ impl Board {
                 buffer.len(),
             )
         };
-        Answer::heard(number, 0, 0)
+        Answer::from_report(number, 0, 0)
     }
 
     /// Draws the posted lists for at most `budget` steps; a step is an entry fetched or a pixel visited.
@@ -156,6 +156,6 @@ impl Board {
                 virt.len(),
             )
         };
-        Answer::heard(number, 0, steps)
+        Answer::from_report(number, 0, steps)
     }
 }

@@ -9,16 +9,16 @@ use crate::state::Step;
 /// The answer's number, the place of the first illegal entry and the steps done.
 /// "The place is zero but in 6, the step count but in 9 and in a done run".
 #[derive(Clone, Copy, PartialEq, Eq, Debug)]
-pub struct Heard {
+pub struct Report {
     pub number: u32,
     pub place: u64,
     pub steps: u64,
 }
 
-impl Heard {
+impl Report {
     /// An answer in which place and steps are zero.
-    pub fn plain(number: u32) -> Heard {
-        Heard {
+    pub fn plain(number: u32) -> Report {
+        Report {
             number,
             place: 0,
             steps: 0,
@@ -27,38 +27,38 @@ impl Heard {
 }
 
 /// "Make: 2, returning then the fresh 1 by 1 board with 1 entry."
-pub fn make(width: u64, height: u64, entries: u64) -> (Heard, Record) {
+pub fn make(width: u64, height: u64, entries: u64) -> (Report, Record) {
     if sizes_legal(width, height, entries) {
         let record = Record::fresh(width as u32, height as u32, entries as u32);
-        (Heard::plain(0), record)
+        (Report::plain(0), record)
     } else {
-        (Heard::plain(2), Record::fresh(1, 1, 1))
+        (Report::plain(2), Record::fresh(1, 1, 1))
     }
 }
 
 /// "A post takes the active slot if it is free, the next entry then being the
 /// list's start, else the pending slot." "Post: 1 to 6."
-pub fn post(record: &mut Record, list: &[u8], start: u64, count: u64) -> Heard {
+pub fn post(record: &mut Record, list: &[u8], start: u64, count: u64) -> Report {
     if record.malformed() {
-        return Heard::plain(1);
+        return Report::plain(1);
     }
     if !is_list_memory(record, list) {
-        return Heard::plain(2);
+        return Report::plain(2);
     }
     if count == 0 {
-        return Heard::plain(3);
+        return Report::plain(3);
     }
     if passes_end(start, count, record.entries.into()) {
-        return Heard::plain(4);
+        return Report::plain(4);
     }
     if record.active_taken == 1 && record.pending_taken == 1 {
-        return Heard::plain(5);
+        return Report::plain(5);
     }
     for place in start..start + count {
         if entry_at(list, place as usize).is_none() {
-            return Heard {
+            return Report {
                 place,
-                ..Heard::plain(6)
+                ..Report::plain(6)
             };
         }
     }
@@ -72,27 +72,27 @@ pub fn post(record: &mut Record, list: &[u8], start: u64, count: u64) -> Heard {
         record.pending_start = start as u32;
         record.pending_count = count as u32;
     }
-    Heard::plain(0)
+    Report::plain(0)
 }
 
 /// "List store: 1, 2, 4, 8." "A done store puts its bytes into list memory from its
 /// first entry on".
-pub fn store(record: &mut Record, list: &mut [u8], first: u64, bytes: &[u8]) -> Heard {
+pub fn store(record: &mut Record, list: &mut [u8], first: u64, bytes: &[u8]) -> Report {
     if record.malformed() {
-        return Heard::plain(1);
+        return Report::plain(1);
     }
     if !is_list_memory(record, list) || !bytes.len().is_multiple_of(ENTRY_BYTES) {
-        return Heard::plain(2);
+        return Report::plain(2);
     }
     let count = (bytes.len() / ENTRY_BYTES) as u64;
     if passes_end(first, count, record.entries.into()) {
-        return Heard::plain(4);
+        return Report::plain(4);
     }
     if touches_held_entry(record, first, count) {
-        return Heard::plain(8);
+        return Report::plain(8);
     }
     put_bytes(list, first * ENTRY_BYTES as u64, bytes);
-    Heard::plain(0)
+    Report::plain(0)
 }
 
 /// "Window write (buffer, offset, bytes): 1, 2, 4, 7." "a done window write [puts
@@ -103,21 +103,21 @@ pub fn window_write(
     offset: u64,
     bytes: &[u8],
     buffer: &mut [u8],
-) -> Heard {
+) -> Report {
     if record.malformed() {
-        return Heard::plain(1);
+        return Report::plain(1);
     }
     if number > 1 || !is_buffer(record, buffer) {
-        return Heard::plain(2);
+        return Report::plain(2);
     }
     if passes_end(offset, bytes.len() as u64, buffer.len() as u64) {
-        return Heard::plain(4);
+        return Report::plain(4);
     }
     if record.active_taken == 1 || record.pending_taken == 1 {
-        return Heard::plain(7);
+        return Report::plain(7);
     }
     put_bytes(buffer, offset, bytes);
-    Heard::plain(0)
+    Report::plain(0)
 }
 
 /// "Run takes a budget and reports its steps: the lesser of the budget and the steps
@@ -128,12 +128,12 @@ pub fn run(
     list: &[u8],
     display: &mut [u8],
     virt: &mut [u8],
-) -> Heard {
+) -> Report {
     if record.malformed() {
-        return Heard::plain(1);
+        return Report::plain(1);
     }
     if !is_list_memory(record, list) || !is_buffer(record, display) || !is_buffer(record, virt) {
-        return Heard::plain(2);
+        return Report::plain(2);
     }
     let mut buffers = Buffers {
         width: record.width,
@@ -141,23 +141,23 @@ pub fn run(
         pixels: [display, virt],
     };
     let mut state = record.state();
-    let mut heard = Heard::plain(0);
-    while heard.steps < budget && record.active_taken == 1 {
+    let mut report = Report::plain(0);
+    while report.steps < budget && record.active_taken == 1 {
         match state.step(list, record.next as usize, &mut buffers) {
             Step::Fetched => record.next += 1,
             Step::Visited => {}
             Step::Illegal => {
-                heard.number = 9;
+                report.number = 9;
                 break;
             }
         }
-        heard.steps += 1;
+        report.steps += 1;
         if !state.under_way && record.next == record.active_start + record.active_count {
             end_active_list(record);
         }
     }
     record.set_state(&state);
-    heard
+    report
 }
 
 /// "A list ends with the step after which it has neither entries nor pixels left;

@@ -15,7 +15,7 @@ pub mod sequence;
 pub mod state;
 pub mod text;
 
-pub use calls::{make, post, run, store, window_write, Heard};
+pub use calls::{make, post, run, store, window_write, Report};
 pub use paper::PaperBoard;
 pub use record::{Record, NAMES};
 pub use sequence::Sequence;

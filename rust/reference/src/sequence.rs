@@ -1,7 +1,7 @@
 //! A board, the memories lent to it and the paper board beside it: the calls of a
 //! sequence, each held against the claim of demand 3.
 
-use crate::calls::{self, Heard};
+use crate::calls::{self, Report};
 use crate::paper::PaperBoard;
 use crate::record::Record;
 
@@ -17,8 +17,8 @@ pub struct Sequence {
 impl Sequence {
     /// A fresh board, whether make was done or refused, with zeroed memories of its
     /// sizes.
-    pub fn make(width: u64, height: u64, entries: u64) -> (Heard, Sequence) {
-        let (heard, record) = calls::make(width, height, entries);
+    pub fn make(width: u64, height: u64, entries: u64) -> (Report, Sequence) {
+        let (report, record) = calls::make(width, height, entries);
         let pixels = record.width as usize * record.height as usize;
         let list = vec![0; 5 * record.entries as usize];
         let buffer = vec![0; pixels];
@@ -37,47 +37,47 @@ impl Sequence {
             paper,
             fault: None,
         };
-        (heard, sequence)
+        (report, sequence)
     }
 
-    pub fn post(&mut self, start: u64, count: u64) -> Heard {
-        let heard = calls::post(&mut self.record, &self.list, start, count);
-        self.paper.post(start, count, heard.number == 0);
-        self.check(heard)
+    pub fn post(&mut self, start: u64, count: u64) -> Report {
+        let report = calls::post(&mut self.record, &self.list, start, count);
+        self.paper.post(start, count, report.number == 0);
+        self.check(report)
     }
 
-    pub fn store(&mut self, first: u64, bytes: &[u8]) -> Heard {
-        let heard = calls::store(&mut self.record, &mut self.list, first, bytes);
-        self.paper.store(first, bytes, heard.number == 0);
-        self.check(heard)
+    pub fn store(&mut self, first: u64, bytes: &[u8]) -> Report {
+        let report = calls::store(&mut self.record, &mut self.list, first, bytes);
+        self.paper.store(first, bytes, report.number == 0);
+        self.check(report)
     }
 
-    pub fn window_write(&mut self, number: u64, offset: u64, bytes: &[u8]) -> Heard {
+    pub fn window_write(&mut self, number: u64, offset: u64, bytes: &[u8]) -> Report {
         let buffer = if number == 1 {
             &mut self.virt
         } else {
             &mut self.display
         };
-        let heard = calls::window_write(&mut self.record, number, offset, bytes, buffer);
+        let report = calls::window_write(&mut self.record, number, offset, bytes, buffer);
         self.paper
-            .window_write(number, offset, bytes, heard.number == 0);
-        self.check(heard)
+            .window_write(number, offset, bytes, report.number == 0);
+        self.check(report)
     }
 
     /// "A run that answers 0 reports the lesser of its budget and the steps that
     /// would empty the queue."
-    pub fn run(&mut self, budget: u64) -> Heard {
+    pub fn run(&mut self, budget: u64) -> Report {
         let lesser = budget.min(self.paper.steps_to_empty());
         let (display, virt) = (&mut self.display, &mut self.virt);
-        let heard = calls::run(&mut self.record, budget, &self.list, display, virt);
-        if heard.number == 0 && heard.steps != lesser {
-            self.note(format!("{} steps, not {lesser}", heard.steps));
+        let report = calls::run(&mut self.record, budget, &self.list, display, virt);
+        if report.number == 0 && report.steps != lesser {
+            self.note(format!("{} steps, not {lesser}", report.steps));
         }
-        let taken = self.paper.run(heard.steps);
-        if taken != heard.steps {
+        let taken = self.paper.run(report.steps);
+        if taken != report.steps {
             self.note(format!("the paper board has only {taken} steps"));
         }
-        self.check(heard)
+        self.check(report)
     }
 
     /// The first way in which the claim of demand 3 failed, if it did.
@@ -86,9 +86,9 @@ impl Sequence {
     }
 
     /// "no call finds the board record malformed, and no run answers 9".
-    fn check(&mut self, heard: Heard) -> Heard {
-        if heard.number == 1 || heard.number == 9 {
-            self.note(format!("answer {}", heard.number));
+    fn check(&mut self, report: Report) -> Report {
+        if report.number == 1 || report.number == 9 {
+            self.note(format!("answer {}", report.number));
         }
         let record = &self.record;
         let difference = self
@@ -97,7 +97,7 @@ impl Sequence {
         if let Some(part) = difference {
             self.note(format!("{part} differ"));
         }
-        heard
+        report
     }
 
     fn note(&mut self, fault: String) {

@@ -22,7 +22,7 @@
 //! error and status 2.
 
 use reference::text::hex_rows;
-use reference::{Heard, Sequence, NAMES};
+use reference::{Report, Sequence, NAMES};
 use std::io::{Read, Write};
 use std::process::ExitCode;
 
@@ -32,23 +32,23 @@ fn main() -> ExitCode {
         eprintln!("standard input: {error}");
         return ExitCode::from(2);
     }
-    let (report, status) = match make_calls(&String::from_utf8_lossy(&input)) {
-        Ok((report, agrees)) => (report, u8::from(!agrees)),
-        Err((report, message)) => {
+    let (text, status) = match make_calls(&String::from_utf8_lossy(&input)) {
+        Ok((text, agrees)) => (text, u8::from(!agrees)),
+        Err((text, message)) => {
             eprintln!("{message}");
-            (report, 2)
+            (text, 2)
         }
     };
-    match std::io::stdout().write_all(report.as_bytes()) {
+    match std::io::stdout().write_all(text.as_bytes()) {
         Ok(()) => ExitCode::from(status),
         Err(_) => ExitCode::from(2),
     }
 }
 
-/// The report and whether the paper board agrees; in the error, the report as far as
+/// The text and whether the paper board agrees; in the error, the text as far as
 /// it goes and the message.
 fn make_calls(input: &str) -> Result<(String, bool), (String, String)> {
-    let mut report = String::new();
+    let mut text = String::new();
     let mut sequence: Option<Sequence> = None;
     let mut fault = None;
     for (index, line) in input.lines().enumerate() {
@@ -58,33 +58,33 @@ fn make_calls(input: &str) -> Result<(String, bool), (String, String)> {
         }
         let number = index + 1;
         match make_call(&words, &mut sequence) {
-            Ok(heard) => report.push_str(&outcome(number, words[0], heard)),
-            Err(message) => return Err((report, format!("line {number}: {message}"))),
+            Ok(report) => text.push_str(&outcome(number, words[0], report)),
+            Err(message) => return Err((text, format!("line {number}: {message}"))),
         }
         let found = sequence.as_ref().and_then(Sequence::fault);
         fault = fault.or_else(|| found.map(|found| format!("line {number}: {found}")));
     }
     let Some(sequence) = sequence else {
-        return Err((report, "the input has no call".to_string()));
+        return Err((text, "the input has no call".to_string()));
     };
-    report.push_str(&ending(&sequence));
+    text.push_str(&ending(&sequence));
     match &fault {
-        None => report.push_str("paper board agrees\n"),
-        Some(fault) => report.push_str(&format!("paper board disagrees: {fault}\n")),
+        None => text.push_str("paper board agrees\n"),
+        Some(fault) => text.push_str(&format!("paper board disagrees: {fault}\n")),
     }
-    Ok((report, fault.is_none()))
+    Ok((text, fault.is_none()))
 }
 
 /// Makes the call of one line.
-fn make_call(words: &[&str], sequence: &mut Option<Sequence>) -> Result<Heard, String> {
+fn make_call(words: &[&str], sequence: &mut Option<Sequence>) -> Result<Report, String> {
     let (call, arguments) = (words[0], &words[1..]);
     if call == "make" {
         let ([width, height, entries], []) = numbers(call, arguments)? else {
             return Err("make takes three numbers: width, height, entries".to_string());
         };
-        let (heard, made) = Sequence::make(width, height, entries);
+        let (report, made) = Sequence::make(width, height, entries);
         *sequence = Some(made);
-        return Ok(heard);
+        return Ok(report);
     }
     if !["store", "post", "write", "run"].contains(&call) {
         return Err(format!("no call is named {call:?}"));
@@ -148,12 +148,12 @@ fn hex_bytes(arguments: &[&str]) -> Result<Vec<u8>, String> {
     Ok(bytes)
 }
 
-fn outcome(line: usize, call: &str, heard: Heard) -> String {
-    let Heard {
+fn outcome(line: usize, call: &str, report: Report) -> String {
+    let Report {
         number,
         place,
         steps,
-    } = heard;
+    } = report;
     format!("{line} {call} answer {number} place {place} steps {steps}\n")
 }
 

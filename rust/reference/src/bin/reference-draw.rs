@@ -3,7 +3,7 @@
 //! budget 1,000,000, prints display rows in hex, two upper-case digits a byte."
 
 use reference::text::hex_rows;
-use reference::{make, post, run, Heard};
+use reference::{make, post, run, Report};
 use std::io::{Read, Write};
 
 const ENTRIES: usize = 4_096;
@@ -23,8 +23,8 @@ fn draw(input: &[u8]) -> String {
     let mut list = vec![0; 5 * ENTRIES];
     let mut display = vec![0; 8 * 4];
     let mut virt = vec![0; 8 * 4];
-    let heard = if !input.len().is_multiple_of(5) || input.len() > list.len() {
-        Heard::plain(2)
+    let report = if !input.len().is_multiple_of(5) || input.len() > list.len() {
+        Report::plain(2)
     } else {
         list[..input.len()].copy_from_slice(input);
         let posted = post(&mut record, &list, 0, input.len() as u64 / 5);
@@ -39,7 +39,7 @@ fn draw(input: &[u8]) -> String {
     } else {
         "idle"
     };
-    let Heard { number, steps, .. } = heard;
+    let Report { number, steps, .. } = report;
     let rows = hex_rows(&display, record.width);
     format!("answer {number} steps {steps} {word}\n{rows}")
 }

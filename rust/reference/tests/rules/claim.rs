@@ -66,7 +66,7 @@ impl Random {
 
 /// One random call; whether it was done.
 fn call(random: &mut Random, board: &mut Sequence) -> bool {
-    let heard = match random.below(8) {
+    let report = match random.below(8) {
         0 | 1 => {
             let count = random.below(4) as usize;
             let bytes: Vec<u8> = (0..count).flat_map(|_| random.entry()).collect();
@@ -82,7 +82,7 @@ fn call(random: &mut Random, board: &mut Sequence) -> bool {
             board.run(budget)
         }
     };
-    heard.number == 0
+    report.number == 0
 }
 
 #[test]

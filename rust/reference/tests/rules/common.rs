@@ -1,7 +1,7 @@
 //! Short ways to write lists, and boards that are checked against the paper board.
 
 pub use reference::entries::register::*;
-use reference::{Heard, Record, Sequence};
+use reference::{Record, Report, Sequence};
 
 /// The line command of the program's example, and other whole words of CMD.
 pub const SOLID_LINE: u32 = 0x2380_0000;
@@ -39,27 +39,27 @@ pub fn example() -> Vec<u8> {
 }
 
 pub fn board(width: u64, height: u64, entries: u64) -> Sequence {
-    let (heard, board) = Sequence::make(width, height, entries);
-    assert_eq!(heard, plain(0));
+    let (report, board) = Sequence::make(width, height, entries);
+    assert_eq!(report, plain(0));
     board
 }
 
-pub fn plain(number: u32) -> Heard {
-    Heard::plain(number)
+pub fn plain(number: u32) -> Report {
+    Report::plain(number)
 }
 
-pub fn steps(steps: u64) -> Heard {
-    Heard { steps, ..plain(0) }
+pub fn steps(steps: u64) -> Report {
+    Report { steps, ..plain(0) }
 }
 
 /// Stores the list at entry 0, posts it and runs it to its end; the steps.
 pub fn draw(board: &mut Sequence, list: &[(usize, u32)]) -> u64 {
     assert_eq!(board.store(0, &entries(list)), plain(0));
     assert_eq!(board.post(0, list.len() as u64), plain(0));
-    let heard = board.run(u64::MAX);
-    assert_eq!(heard.number, 0);
+    let report = board.run(u64::MAX);
+    assert_eq!(report.number, 0);
     assert_eq!(board.fault(), None);
-    heard.steps
+    report.steps
 }
 
 /// A board of 8 by 4 that holds the example as its only list.

@@ -1,7 +1,7 @@
 //! "What the host hears": the grounds of each call and their order.
 
 use crate::common::*;
-use reference::{make, post, run, store, window_write, Heard, Record};
+use reference::{make, post, run, store, window_write, Record, Report};
 
 const HUGE: u64 = u64::MAX;
 
@@ -19,8 +19,8 @@ fn make_sizes() {
         (1 << 32 | 8, 4, 16, 2),
         (HUGE, HUGE, HUGE, 2),
     ] {
-        let (heard, record) = make(width, height, entries);
-        assert_eq!(heard, plain(number));
+        let (report, record) = make(width, height, entries);
+        assert_eq!(report, plain(number));
         let [w, h, e] = if number == 0 {
             [width as u32, height as u32, entries as u32]
         } else {
@@ -62,11 +62,11 @@ fn post_grounds() {
         }
         let before = record;
         list.resize(bytes, 0);
-        let heard = post(&mut record, &list, start, count);
+        let report = post(&mut record, &list, start, count);
         list.resize(80, 0);
         assert_eq!(
-            heard,
-            Heard {
+            report,
+            Report {
                 place,
                 ..plain(number)
             }
@@ -113,8 +113,8 @@ fn store_grounds() {
         post(&mut record, &list, 8, 2);
         list.resize(size, 0);
         let (before, mut expected) = (record, list.clone());
-        let heard = store(&mut record, &mut list, first, &vec![0xAB; bytes]);
-        assert_eq!(heard, plain(number), "{size} {first} {bytes}");
+        let report = store(&mut record, &mut list, first, &vec![0xAB; bytes]);
+        assert_eq!(report, plain(number), "{size} {first} {bytes}");
         if number == 0 && bytes > 0 {
             expected[5 * first as usize..][..bytes].fill(0xAB);
         }
@@ -147,8 +147,8 @@ fn window_write_grounds() {
         };
         let mut buffer = vec![1; size];
         let (before, mut expected) = (record, buffer.clone());
-        let heard = window_write(&mut record, number, offset, &vec![7; bytes], &mut buffer);
-        assert_eq!(heard, plain(answer));
+        let report = window_write(&mut record, number, offset, &vec![7; bytes], &mut buffer);
+        assert_eq!(report, plain(answer));
         if answer == 0 && bytes > 0 {
             expected[offset as usize..][..bytes].fill(7);
         }
@@ -168,8 +168,8 @@ fn run_needs_all_three_memories() {
         let mut record = make(8, 4, 16).1;
         let before = record;
         let (mut display, mut virt) = (vec![5; display], vec![5; virt]);
-        let heard = run(&mut record, HUGE, &vec![0; list], &mut display, &mut virt);
-        assert_eq!((heard, record), (plain(number), before));
+        let report = run(&mut record, HUGE, &vec![0; list], &mut display, &mut virt);
+        assert_eq!((report, record), (plain(number), before));
     }
 }
 
@@ -181,13 +181,13 @@ fn run_meets_an_illegal_entry() {
         let (mut record, mut list) = busy();
         list[2 * 5] |= 1;
         let (mut display, mut virt) = ([0; 32], [0; 32]);
-        let heard = run(&mut record, budget, &list, &mut display, &mut virt);
-        let expected = Heard {
+        let report = run(&mut record, budget, &list, &mut display, &mut virt);
+        let expected = Report {
             number,
             place: 0,
             steps: done,
         };
-        assert_eq!(heard, expected);
+        assert_eq!(report, expected);
         assert_eq!((record.next, record.active_taken), (done as u32, 1));
         assert_eq!(display, [0; 32]);
         if number == 9 {
@@ -196,7 +196,7 @@ fn run_meets_an_illegal_entry() {
             let again = run(&mut record, 1, &list, &mut display, &mut virt);
             assert_eq!(
                 again,
-                Heard {
+                Report {
                     steps: 0,
                     ..expected
                 }
@@ -214,10 +214,10 @@ fn run_meets_an_illegal_entry_in_the_pending_list() {
     list[8 * 5] = 0xFF;
     let (mut display, mut virt) = ([0; 32], [0; 32]);
     for (number, done) in [(9, 9), (9, 0)] {
-        let heard = run(&mut record, HUGE, &list, &mut display, &mut virt);
+        let report = run(&mut record, HUGE, &list, &mut display, &mut virt);
         assert_eq!(
-            heard,
-            Heard {
+            report,
+            Report {
                 number,
                 place: 0,
                 steps: done

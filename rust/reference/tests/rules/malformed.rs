@@ -49,7 +49,7 @@ fn faults(mut record: Record, change: Change) -> Vec<&'static str> {
             assert_eq!(answers, [plain(1); 4]);
             assert_eq!(record, before);
         } else {
-            assert!(answers.iter().all(|heard| heard.number != 1));
+            assert!(answers.iter().all(|report| report.number != 1));
             record = before;
         }
         assert!(a.iter().chain(&b).chain(&c).all(|&byte| byte == 1));
