@@ -2,7 +2,6 @@
 ghost use mathlib.Core.Path.{_≡_};
 ghost use Rattle.entries.specs.Legality.{cmdLegal, pctrlLegal, dataLegal, entryLegal, legalAt};
 use crate::decoding::Decoded;
-use crate::decoding::Entry;
 use crate::decoding::entry_at;
 use crate::fields::command_of;
 use crate::fields::pattern_length;
@@ -45,13 +44,12 @@ pub fn legal_data(register: u32, word: u32) -> bool
     register <= 12
 }
 
-impl Entry {
-    pub fn legal(self) -> bool
-        ensures { λ r. ⌜ r ≡ entryLegal self ⌝ }
-    {
-        let held = legal_data(self.register, self.word);
-        (self.spare == 0) & held
-    }
+// Whether an entry is legal. It comes by its fields, which stay in machine registers.
+pub fn legal_entry(register: u32, spare: u32, word: u32) -> bool
+    ensures { λ r. ⌜ r ≡ entryLegal (record { register = register; spare = spare; word = word; }) ⌝ }
+{
+    let held = legal_data(register, word);
+    (spare == 0) & held
 }
 
 // Whether list memory has a legal entry at a place.
@@ -59,7 +57,7 @@ pub fn legal_at(list: &[u8], place: usize) -> bool
     ensures { λ r. ⌜ r ≡ legalAt (now (list .entry)) place ⌝ }
 {
     match entry_at(list, place) {
-        Decoded::Whole(e) => e.legal(),
+        Decoded::Whole(e) => legal_entry(e.register, e.spare, e.word),
         Decoded::Nothing => false,
     }
 }

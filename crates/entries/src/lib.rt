@@ -15,4 +15,5 @@ pub use fields::pattern_length;
 pub use legality::legal_at;
 pub use legality::legal_cmd;
 pub use legality::legal_data;
+pub use legality::legal_entry;
 pub use legality::legal_pctrl;

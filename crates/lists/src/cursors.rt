@@ -5,7 +5,7 @@ use crate::spans::Span;
 use entries::Decoded;
 use entries::Entry;
 use entries::entry_at;
-use entries::legal_data;
+use entries::legal_entry;
 
 // A list and its next entry.
 pub struct Cursor {
@@ -61,8 +61,7 @@ pub fn next_of(list: &[u8], c: Cursor, under_way: bool) -> Next
     let Decoded::Whole(entry) = fetched else {
         return Next::Broken;
     };
-    let held = legal_data(entry.register, entry.word);
-    if (entry.spare == 0) & held {
+    if legal_entry(entry.register, entry.spare, entry.word) {
         return Next::Take(entry);
     }
     Next::Broken

@@ -11,8 +11,8 @@ entry-at-requires c κs = search needs
 enum-known-e : tie.Need-enum-known-e
 enum-known-e c = search needs
 
-legal-requires : tie.Need-legal-requires
-legal-requires c κs = search needs
+legal-entry-requires : tie.Need-legal-entry-requires
+legal-entry-requires c κs = search needs
 
 enum-told : tie.Need-enum-told
 enum-told c = search needs
@@ -20,11 +20,11 @@ enum-told c = search needs
 returns : tie.Need-returns
 returns c =
     let o = c .before .before in
-    c .legal .ensures ∙ legal-by _ _ _ _ (o .before .before .entry-at .ensures) (o .e .given .1)
+    c .legal-entry .ensures ∙ legal-by _ _ _ _ (o .before .before .entry-at .ensures) (o .e .given .1)
 
 returns-2 : tie.Need-returns-2
 returns-2 c = legal-by _ _ _ _ (c .before .before .entry-at .ensures) (c .enum-told .given .1)
 
 pub legal-at-spec : {M : Type 1} → statement M
 legal-at-spec =
-    tie.close (tie.spec entry-at-requires enum-known-e legal-requires enum-told returns returns-2)
+    tie.close (tie.spec entry-at-requires enum-known-e legal-entry-requires enum-told returns returns-2)
