@@ -6,6 +6,13 @@
  *  - a length is what its pointer really has behind it; with a length of 0 any pointer will do, NULL too;
  *  - nothing that one pointer of a call lends for writing overlaps what another pointer of that call lends, and no other
  *    thread touches any of it during the call.
+ *
+ * What the caller gets, proved as one theorem about any sequence of calls (statements/specs/Images.antt, Demand3InC): from
+ * pramolyt_make answered 0 on, with each call handed record and memories as the last call left them, no call answers 1 and
+ * no run answers 9, and after each call both pictures are those of the lists run in the order in which they were accepted,
+ * as far as the steps reported, each list as it read when it was posted. What voids it: a change of the record, of list
+ * memory but by pramolyt_store, or of a picture but by pramolyt_window_write; or a memory of another size, for that call
+ * alone, which answers 2 and changes nothing.
  */
 #ifndef PRAMOLYT_H
 #define PRAMOLYT_H
@@ -21,14 +28,15 @@ extern "C" {
  * as they were. Where several grounds hold, the lowest number is answered. */
 enum {
     PRAMOLYT_DONE = 0,
-    PRAMOLYT_MALFORMED = 1,      /* the record is none that the calls can lead to */
+    PRAMOLYT_MALFORMED = 1,      /* the record fails the test of a board record: it was never made, or was changed between
+                                    calls. The test looks at the record alone; not every change is seen */
     PRAMOLYT_WRONG_SIZE = 2,     /* sizes outside the limits, a memory of another size than the record says, a buffer
                                     number above 1, or stored bytes that are no multiple of 5 */
     PRAMOLYT_NO_ENTRIES = 3,     /* a list of no entries */
     PRAMOLYT_PAST_THE_END = 4,   /* a span passes the end of its memory */
-    PRAMOLYT_SLOTS_TAKEN = 5,    /* both slots are taken */
+    PRAMOLYT_SLOTS_FULL = 5,     /* both slots are taken */
     PRAMOLYT_ILLEGAL_ENTRY = 6,  /* the list has an illegal entry; *place is the first one */
-    PRAMOLYT_SLOT_TAKEN = 7,     /* a window write while a slot is taken */
+    PRAMOLYT_BUSY = 7,           /* a window write while a slot is taken */
     PRAMOLYT_ENTRY_HELD = 8,     /* a store touches an entry of a list in a slot */
     PRAMOLYT_ILLEGAL_FETCH = 9   /* a run came to an illegal entry; the *steps before it stand */
 };

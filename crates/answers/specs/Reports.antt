@@ -1,7 +1,7 @@
 -- What a call answers (01, What the host hears): number, place and steps.
 use Prim.Native.Nat.{ℕ}
 use Rattle.answers.specs.declared.Status.{Status}
-use Rattle.answers.specs.declared.Status.the-variants.{Done, Malformed, WrongSize, NoEntries, PastTheEnd, SlotsTaken, IllegalEntry, SlotTaken, EntryHeld, IllegalFetch}
+use Rattle.answers.specs.declared.Status.the-variants.{Done, Malformed, WrongSize, NoEntries, PastTheEnd, SlotsFull, IllegalEntry, Busy, EntryHeld, IllegalFetch}
 
 -- Document 01's number, the place and the steps.
 pub record Report : Type 0 where
@@ -19,8 +19,8 @@ reportOf Malformed = report 1 0 0
 reportOf WrongSize = report 2 0 0
 reportOf NoEntries = report 3 0 0
 reportOf PastTheEnd = report 4 0 0
-reportOf SlotsTaken = report 5 0 0
+reportOf SlotsFull = report 5 0 0
 reportOf (IllegalEntry place) = report 6 place 0
-reportOf SlotTaken = report 7 0 0
+reportOf Busy = report 7 0 0
 reportOf EntryHeld = report 8 0 0
 reportOf (IllegalFetch steps) = report 9 0 steps

@@ -10,10 +10,10 @@ pub enum Status {
     WrongSize,
     NoEntries,
     PastTheEnd,
-    SlotsTaken,
+    SlotsFull,
     // The place of the first illegal entry.
     IllegalEntry(usize),
-    SlotTaken,
+    Busy,
     EntryHeld,
     // An illegal entry was fetched after so many steps.
     IllegalFetch(u64),
@@ -30,9 +30,9 @@ impl Status {
             Status::WrongSize => 2,
             Status::NoEntries => 3,
             Status::PastTheEnd => 4,
-            Status::SlotsTaken => 5,
+            Status::SlotsFull => 5,
             Status::IllegalEntry(_) => 6,
-            Status::SlotTaken => 7,
+            Status::Busy => 7,
             Status::EntryHeld => 8,
             Status::IllegalFetch(_) => 9,
         }
@@ -48,9 +48,9 @@ impl Status {
             Status::WrongSize => 0,
             Status::NoEntries => 0,
             Status::PastTheEnd => 0,
-            Status::SlotsTaken => 0,
+            Status::SlotsFull => 0,
             Status::IllegalEntry(_) => 0,
-            Status::SlotTaken => 0,
+            Status::Busy => 0,
             Status::EntryHeld => 0,
             Status::IllegalFetch(steps) => steps,
         }
@@ -66,9 +66,9 @@ impl Status {
             Status::WrongSize => 0,
             Status::NoEntries => 0,
             Status::PastTheEnd => 0,
-            Status::SlotsTaken => 0,
+            Status::SlotsFull => 0,
             Status::IllegalEntry(place) => place,
-            Status::SlotTaken => 0,
+            Status::Busy => 0,
             Status::EntryHeld => 0,
             Status::IllegalFetch(_) => 0,
         }

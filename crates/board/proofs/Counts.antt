@@ -1,11 +1,13 @@
--- A run that answers 0 reports the lesser of its budget and the steps left in both lists.
+-- A run that answers 0 reports the lesser of its budget and the steps left in both lists, and ends idle where these are its
+-- budget: each step has one fewer left.
 -- Assumes nothing.
 use mathlib.Core.Path.{_≡_, refl, ap, ap₂, sym, _∙_}
-use mathlib.Core.Bool.{false}
+use mathlib.Core.Bool.{true, false}
 use mathlib.Core.List.{List, [], _∷_, _++_, append-nil}
-use Prim.Native.Nat.{ℕ, zero, suc, _+_, min}
+use Prim.Native.Nat.{ℕ, zero, suc, _+_, _-_, _≤_, min}
 use native.Mathlib.Omega.{arith}
 use Rattle.lemmas.proofs.Booleans.{by-cases, first-of, second-of}
+use Rattle.entries.specs.Layout.{entryOf}
 use Rattle.entries.specs.declared.decoding.Entry.{Entry}
 use Rattle.lists.specs.Cursors.{cursorOn, fetchedOf, endedOf, restOf}
 use Rattle.lists.specs.declared.cursors.Cursor.{Cursor}
@@ -18,12 +20,13 @@ use Rattle.commands.specs.Wholes.{stepsOf}
 use Rattle.commands.proofs.Counts.{visit-steps, take-steps, none-left}
 use Rattle.slots.specs.Slots.{emptySlot}
 use Rattle.slots.proofs.Slotted.{active-rest, slot-rest}
+use Rattle.board.specs.Record.{wellFormed}
 use Rattle.board.specs.Steps.{Machine, nextOn, withSteps, settledOf, movedTo, sceneOf, actOf, stepOf}
 use Rattle.board.specs.Runs.{Outcome, byNext, runOf}
-use Rattle.board.specs.Left.{toCome, stepsLeft, LesserOfBudgetAndLeft}
+use Rattle.board.specs.Left.{toCome, stepsLeft, LesserOfBudgetAndLeft, EndsIdle, StaysBusy}
 use Rattle.board.specs.declared.record.Board.{Board}
-use Rattle.board.proofs.Forms.{Good, good-of, none-waits, pixels-of, next-below}
-use Rattle.board.proofs.Keeps.{followed, stays-well-formed, settled-sizes, settled-engine}
+use Rattle.board.proofs.Forms.{Good, good-of, none-waits, at-rest, pixels-of, next-below}
+use Rattle.board.proofs.Keeps.{followed, stays-well-formed, run-well, settled-sizes, settled-engine}
 
 -- settling leaves the rest: the next list takes its turn with no step
 pub settled-to-come : (l : List ℕ) (b : Board) → toCome l (settledOf b) ≡ toCome l b
@@ -108,3 +111,52 @@ lesser (suc k) l m w h =
     run-by k l m (runOf k l (stepOf l m)) (nextOn l (m .board)) refl (good-of (m .board) w)
     (lesser k l (stepOf l m) (stays-well-formed l m w))
     h
+
+-- ---- the steps left after a run
+left-by : (k : ℕ) (l : List ℕ) (m : Machine) (more : Outcome) (x : Next) → nextOn l (m .board) ≡ x → Good (m .board)
+    → (more .report .number ≡ 0 → stepsLeft l (more .after) ≡ stepsLeft l (actOf x m) - k)
+    → byNext x m more .report .number ≡ 0 → stepsLeft l (byNext x m more .after) ≡ stepsLeft l m - suc k
+left-by k l m more Ended e g f h = omega (arith, idle-left l m e g)
+left-by k l m more Visit e g f h = omega (arith, f h, visit-left l m e g)
+left-by k l m more (Take x) e g f h = omega (arith, f h, take-left l m x e g)
+left-by k l m more Broken e g f h = absurd (omega arith)
+
+left-after : (k : ℕ) (l : List ℕ) (m : Machine) → wellFormed (m .board) ≡ true → runOf k l m .report .number ≡ 0
+    → stepsLeft l (runOf k l m .after) ≡ stepsLeft l m - k
+unfolding runOf stepOf
+left-after zero l m w h = omega arith
+left-after (suc k) l m w h =
+    left-by k l m (runOf k l (stepOf l m)) (nextOn l (m .board)) refl (good-of (m .board) w)
+    (left-after k l (stepOf l m) (stays-well-formed l m w))
+    h
+
+-- a board with a list has a step left, and one without has none
+busy-left : (l : List ℕ) (m : Machine) → Good (m .board) → m .board .active .taken ≡ true → 1 ≤ stepsLeft l m
+busy-left l m g t =
+    let b = m .board in
+    let c = b .active .cursor in
+    let next = restOf l (cursorOn (b .pending .span)) in
+    by-cases (b .engine .«under_way»)
+    (λ u. omega (arith, visit-steps (b .sizes .extent) (sceneOf m) u (pixels-of b g u) (toCome l b)))
+    (λ u.
+    let head = ap (λ es. stepsOf (b .sizes .extent) (sceneOf m) (es ++ next)) (rest-next l c (next-below b g t u .before)) in
+    omega (arith, head, take-steps (b .sizes .extent) (sceneOf m) u (entryOf l (c .next)) (restOf l (fetchedOf c) ++ next)))
+
+free-left : (l : List ℕ) (m : Machine) → Good (m .board) → m .board .active .taken ≡ false → stepsLeft l m ≡ 0
+free-left l m g t =
+    ap (stepsOf (m .board .sizes .extent) (sceneOf m)) (none-to-come l (m .board) g t)
+    ∙ none-left (m .board .sizes .extent) (sceneOf m) (at-rest (m .board) g t)
+
+pub ends-idle : EndsIdle
+ends-idle l m w h =
+    let o = runOf (stepsLeft l m) l m in
+    let none = left-after (stepsLeft l m) l m w h in
+    let g = good-of (o .after .board) (run-well (stepsLeft l m) l m w) in
+    by-cases (o .after .board .active .taken) (λ t. absurd (omega (arith, none, busy-left l (o .after) g t))) (λ t. t)
+
+pub stays-busy : StaysBusy
+stays-busy budget l m w few h =
+    let o = runOf budget l m in
+    let some = left-after budget l m w h in
+    let g = good-of (o .after .board) (run-well budget l m w) in
+    by-cases (o .after .board .active .taken) (λ t. t) (λ t. absurd (omega (arith, some, free-left l (o .after) g t)))

@@ -3,7 +3,7 @@
 use mathlib.Core.Path.{_≡_, refl, ap, sym, subst, _∙_}
 use mathlib.Core.Bool.{Bool, true, false, not, cond, _&&_, _||_}
 use mathlib.Core.List.{List, []}
-use Prim.Native.Nat.{ℕ, _<_}
+use Prim.Native.Nat.{ℕ, zero, suc, _<_}
 use native.Mathlib.Omega.{arith}
 use lib.ListN.{length}
 use Rattle.lemmas.proofs.Booleans.{by-cases, or-by, first-of, second-of}
@@ -21,6 +21,8 @@ use Rattle.commands.proofs.Sound.{visits-stay-ok, entries-stay-ok}
 use Rattle.slots.specs.Slots.{sizesOk, emptySlot, activeOn, slotOk, activeOk}
 use Rattle.slots.proofs.Slotted.{Visiting, active-span, active-end, begins, stays-active}
 use Rattle.board.specs.Steps.{Machine, nextOn, withSteps, settledOf, movedTo, sceneOf, actOf, stepOf}
+use Rattle.board.specs.Record.{wellFormed}
+use Rattle.board.specs.Runs.{Outcome, byNext, runOf}
 use Rattle.board.specs.Left.{StaysWellFormed, KeepsLengths}
 use Rattle.board.specs.declared.record.Board.{Board}
 use Rattle.board.proofs.Forms.{Good, good-of, well-of, active-of, next-below, next-within}
@@ -114,6 +116,20 @@ unfolding stepOf
 stays-well-formed l m w =
     well-of (actOf (nextOn l (m .board)) m .board) (act-good l m (nextOn l (m .board)) refl (good-of (m .board) w))
 
+-- a run keeps it well formed
+well-by : (x : Next) (m : Machine) (more : Outcome) → wellFormed (m .board) ≡ true → wellFormed (more .after .board) ≡ true
+    → wellFormed (byNext x m more .after .board) ≡ true
+well-by Ended m more w v = w
+well-by Visit m more w v = v
+well-by (Take x) m more w v = v
+well-by Broken m more w v = w
+
+pub run-well : (k : ℕ) (l : List ℕ) (m : Machine) → wellFormed (m .board) ≡ true → wellFormed (runOf k l m .after .board) ≡ true
+unfolding runOf
+run-well zero l m w = w
+run-well (suc k) l m w =
+    well-by (nextOn l (m .board)) m (runOf k l (stepOf l m)) w (run-well k l (stepOf l m) (stays-well-formed l m w))
+
 pub step-lengths : KeepsLengths
 unfolding stepOf
 step-lengths l m = go (nextOn l (m .board))
@@ -124,7 +140,7 @@ step-lengths l m = go (nextOn l (m .board))
     go (Take x) = (refl, refl)
     go Broken = (refl, refl)
 
--- a step keeps the sizes
+-- settling keeps the sizes
 pub settled-sizes : (b : Board) → settledOf b .sizes ≡ b .sizes
 unfolding settledOf
 settled-sizes b = by (endedOf (b .active .cursor) (b .engine .«under_way»))
@@ -141,3 +157,18 @@ settled-engine b = by (endedOf (b .active .cursor) (b .engine .«under_way»))
     by : (t : Bool) → cond t (followed b) b .engine ≡ b .engine
     by true = refl
     by false = refl
+
+-- and so does a step
+pub step-sizes : (l : List ℕ) (m : Machine) → stepOf l m .board .sizes ≡ m .board .sizes
+unfolding stepOf
+step-sizes l m = go (nextOn l (m .board))
+  where
+    go : (x : Next) → actOf x m .board .sizes ≡ m .board .sizes
+    go Ended = refl
+    go Visit =
+        let s = visitOf (m .board .sizes .extent) (sceneOf m) in
+        settled-sizes (withSteps (m .board) (m .board .active .cursor) (s .engine))
+    go (Take x) =
+        let s = takenOf (m .board .sizes .extent) (sceneOf m) x in
+        settled-sizes (withSteps (m .board) (fetchedOf (m .board .active .cursor)) (s .engine))
+    go Broken = refl

@@ -4,3 +4,4 @@ pub mod Goes
 pub mod Counts
 pub mod Refused
 pub mod Replies
+pub mod Stopped

@@ -1,8 +1,8 @@
 -- The steps left in both lists (01, Steps), and what holds of runs.
 use mathlib.Core.Path.{_≡_}
-use mathlib.Core.Bool.{true}
+use mathlib.Core.Bool.{true, false}
 use mathlib.Core.List.{List, _++_}
-use Prim.Native.Nat.{ℕ, _+_, min}
+use Prim.Native.Nat.{ℕ, _+_, _<_, min}
 use lib.ListN.{length}
 use Rattle.entries.specs.declared.decoding.Entry.{Entry}
 use Rattle.commands.specs.Wholes.{stepsOf}
@@ -28,6 +28,17 @@ abbrev pub LesserOfBudgetAndLeft : Type 0
 LesserOfBudgetAndLeft =
     (budget : ℕ) (l : List ℕ) (m : Machine) → wellFormed (m .board) ≡ true → runOf budget l m .report .number ≡ 0
     → runOf budget l m .report .steps ≡ min budget (stepsLeft l m)
+
+-- A run whose budget is the steps left ends idle, and one with a smaller budget does not.
+abbrev pub EndsIdle : Type 0
+EndsIdle =
+    (l : List ℕ) (m : Machine) → wellFormed (m .board) ≡ true → runOf (stepsLeft l m) l m .report .number ≡ 0
+    → runOf (stepsLeft l m) l m .after .board .active .taken ≡ false
+
+abbrev pub StaysBusy : Type 0
+StaysBusy =
+    (budget : ℕ) (l : List ℕ) (m : Machine) → wellFormed (m .board) ≡ true → budget < stepsLeft l m
+    → runOf budget l m .report .number ≡ 0 → runOf budget l m .after .board .active .taken ≡ true
 
 -- A run of a + b steps is a run of a and, where that answers 0, of b.
 abbrev pub RunsCompose : Type 0

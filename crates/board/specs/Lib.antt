@@ -2,4 +2,5 @@ pub mod Record
 pub mod Steps
 pub mod Runs
 pub mod Left
+pub mod Stopped
 pub mod Calls

@@ -46,7 +46,7 @@ pub fn legal_data(register: u32, word: u32) -> bool
 
 // Whether an entry is legal. It comes by its fields, which stay in machine registers.
 pub fn legal_entry(register: u32, spare: u32, word: u32) -> bool
-    ensures { λ r. ⌜ r ≡ entryLegal (record { register = register; spare = spare; word = word; }) ⌝ }
+    ensures { λ r. ⌜ r ≡ entryLegal (record { register = register; spare = spare; word = word }) ⌝ }
 {
     let held = legal_data(register, word);
     (spare == 0) & held

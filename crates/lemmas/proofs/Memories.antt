@@ -1,10 +1,10 @@
 -- A memory after bytes were put into it: its length, and the bytes before and after them.
 -- Assumes nothing.
 use mathlib.Core.Path.{_≡_, ap, _∙_}
-use mathlib.Core.List.{List, _++_}
+use mathlib.Core.List.{List, [], _++_, append-nil}
 use Prim.Native.Nat.{ℕ, _+_, _-_, _≤_, _<_}
 use native.Mathlib.Omega.{arith}
-use lib.ListN.{length, getD, take, drop, length-append, length-drop, List·getD-append}
+use lib.ListN.{length, getD, take, drop, length-append, length-drop, take-append-drop, List·getD-append}
 use lib.Seq.{getD-append-add, getD-take, getD-drop, length-take-le}
 use Rattle.lemmas.specs.Memory.{putInto}
 
@@ -37,3 +37,10 @@ module _ (l : List ℕ) (at : ℕ) (bytes : List ℕ) (h : at + length bytes ≤
   put-length =
       length-append (take at l ++ bytes) (drop (at + length bytes) l)
       ∙ omega (arith, front-long, length-drop (at + length bytes) l)
+
+-- no bytes put change nothing
+pub put-none : (l : List ℕ) (at : ℕ) → putInto l at [] ≡ l
+unfolding putInto
+put-none l at =
+    let same : at + 0 ≡ at = omega arith in
+    ap (λ front. front ++ drop (at + 0) l) (append-nil (take at l)) ∙ ap (λ k. take at l ++ drop k l) same ∙ take-append-drop at l

@@ -11,7 +11,7 @@ use lib.Dec.{leb, ltb}
 use lib.ListN.{length}
 use Rattle.lemmas.proofs.Booleans.{by-cases, and-right}
 use Rattle.entries.specs.Layout.{entryOf, decodedOf}
-use Rattle.entries.specs.Legality.{entryLegal}
+use Rattle.entries.specs.Legality.{decodedLegal, entryLegal, legalAt}
 use Rattle.entries.proofs.Decodes.{decoded-whole, decoded-none}
 use Rattle.entries.specs.declared.decoding.Entry.{Entry}
 use Rattle.entries.specs.declared.decoding.Decoded.{Decoded}
@@ -30,18 +30,25 @@ pub record Taking (l : List ℕ) (c : Cursor) (u : Bool) (e : Entry) : Type 0 wh
   pub inside : c .next < length l / 5
   pub head : restOf l c ≡ e ∷ restOf l (fetchedOf c)
 
+-- an entry that cannot be taken
+pub record Breaking (l : List ℕ) (c : Cursor) (u : Bool) : Type 0 where
+  pub resting : u ≡ false
+  pub more : c .next < endOf (c .span)
+  pub illegal : legalAt l (c .next) ≡ false
+
 abbrev pub Chosen : List ℕ → Cursor → Bool → Next → Type 0
 Chosen l c u Ended = (u ≡ false) × (restOf l c ≡ [])
 Chosen l c u Visit = u ≡ true
 Chosen l c u (Take e) = Taking l c u e
-Chosen l c u Broken = (u ≡ false) × (c .next < endOf (c .span))
+Chosen l c u Broken = Breaking l c u
 
 module _ (l : List ℕ) (c : Cursor) where
   -- the next entry, by what is read at its place
   read-taken : (more : c .next < endOf (c .span)) (inside : c .next < length l / 5) (t : Bool) → entryLegal (entryOf l (c .next)) ≡ t
       → Chosen l c false (cond t (Take (entryOf l (c .next))) Broken)
   read-taken more inside true h = record { resting = refl; more = more; legal = h; inside = inside; head = rest-next l c more }
-  read-taken more inside false h = (refl, more)
+  read-taken more inside false h =
+      record { resting = refl; more = more; illegal = ap decodedLegal (decoded-whole l (c .next) inside) ∙ h }
 
   read-at : (more : c .next < endOf (c .span)) → Chosen l c false (judged (decodedOf l (c .next)))
   read-at more =
@@ -51,7 +58,8 @@ module _ (l : List ℕ) (c : Cursor) where
       subst (λ d. Chosen l c false (judged d)) (sym (decoded-whole l (c .next) inside))
       (read-taken more inside (entryLegal (entryOf l (c .next))) refl))
       (λ t.
-      subst (λ d. Chosen l c false (judged d)) (sym (decoded-none l (c .next) (ltb-false (c .next) (length l / 5) t))) (refl, more))
+      let none = decoded-none l (c .next) (ltb-false (c .next) (length l / 5) t) in
+      subst (λ d. Chosen l c false (judged d)) (sym none) (record { resting = refl; more = more; illegal = ap decodedLegal none }))
 
   chosen-at : (u : Bool) → Chosen l c u (nextOf l c u)
   unfolding nextOf
@@ -110,7 +118,7 @@ module _ (l : List ℕ) (c : Cursor) (inside : endOf (c .span) ≤ length l / 5)
   pub never-broken : (u : Bool) → nextOf l c u ≡ Broken → ⊥
   never-broken u h =
       let b = chosen l c u Broken h in
-      let k : nextOf l c false ≡ Broken = subst (λ u. nextOf l c u ≡ Broken) (b .0) h in
-      let t = next-taken (b .1) in
+      let k : nextOf l c false ≡ Broken = subst (λ u. nextOf l c u ≡ Broken) (b .resting) h in
+      let t = next-taken (b .more) in
       let z : _≡_ {A = ℕ} 0 1 = cc in
       omega arith

@@ -9,8 +9,8 @@ use borrow.Author.Tests.{ltb-true}
 use lib.Dec.{eqb, ltb}
 use lib.ListN.{length, getD, drop}
 use lib.Seq.{drop-length, drop-cons}
-use Rattle.lemmas.proofs.Booleans.{and-left, and-right}
-use Rattle.pramolyt.specs.Image.{words, flagOf, DecodesEncoded, EncodesDecoded}
+use Rattle.lemmas.proofs.Booleans.{both, and-left, and-right}
+use Rattle.pramolyt.specs.Image.{words, flagOf, DecodesEncoded, EncodesFlags, EncodesDecoded}
 
 flag-decoded : (t : Bool) → eqb (flagOf t) 1 ≡ t
 flag-decoded true = refl
@@ -23,6 +23,13 @@ flag-encoded (suc (suc x)) h = let k : suc (suc x) < 2 = ltb-true _ _ h in absur
 
 pub decodes-encoded : DecodesEncoded
 decodes-encoded b = rw (flag-decoded (b .active .taken), flag-decoded (b .pending .taken), flag-decoded (b .engine .«under_way»))
+
+flag-below : (t : Bool) → ltb (flagOf t) 2 ≡ true
+flag-below true = refl
+flag-below false = refl
+
+pub encodes-flags : EncodesFlags
+encodes-flags b = both (both (flag-below (b .active .taken)) (flag-below (b .pending .taken))) (flag-below (b .engine .«under_way»))
 
 -- n words from word i on
 abbrev wordsFrom : ℕ → ℕ → List ℕ → List ℕ

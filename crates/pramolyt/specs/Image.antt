@@ -145,6 +145,10 @@ flagsOk w = ltb (getD w activeAt 0) 2 && ltb (getD w pendingAt 0) 2 && ltb (getD
 abbrev pub DecodesEncoded : Type 0
 DecodesEncoded = (b : Board) → boardOf (wordsOf b) ≡ b
 
+-- The flags of a record's image are 0 or 1; proved there too.
+abbrev pub EncodesFlags : Type 0
+EncodesFlags = (b : Board) → flagsOk (wordsOf b) ≡ true
+
 -- An image whose flags are 0 or 1 comes back from its record, word for word; proved there too.
 abbrev pub EncodesDecoded : Type 0
 EncodesDecoded = (w : List ℕ) → length w ≡ words → flagsOk w ≡ true → wordsOf (boardOf w) ≡ w

@@ -11,12 +11,13 @@ use borrow.Author.Tests.{eq-eqb, ne-eqb, le-leb, lt-leb, leb-true}
 use lib.Dec.{eqb, leb}
 use lib.ListN.{length, getD, set, take, drop}
 use lib.Seq.{paste, paste-zero, paste-suc, take-length}
-use Rattle.lemmas.proofs.Booleans.{by-cases}
+use Rattle.lemmas.proofs.Booleans.{by-cases, of-either}
 use Rattle.lemmas.specs.Memory.{putInto}
-use Rattle.answers.specs.Reports.{report}
+use Rattle.answers.specs.Reports.{Report, report}
 use Rattle.lists.specs.Spans.{spanOf, firstIllegal}
 use Rattle.lists.specs.declared.spans.Illegal.{Illegal}
-use Rattle.slots.specs.Calls.{judgedBy, postReport, holdsAny, leaves, storeReport, writeReport}
+use Rattle.lists.specs.declared.spans.Illegal.the-variants.{At, Nowhere}
+use Rattle.slots.specs.Calls.{judgedBy, postReport, holdsAny, Lent, leaves, storeReport, writeReport}
 use Rattle.slots.specs.Slots.{areaOf}
 use Rattle.slots.specs.declared.record.Sizes.{Sizes}
 use Rattle.slots.specs.declared.record.Slot.{Slot}
@@ -130,6 +131,46 @@ pub write-leaves : (z : Sizes) (a p : Slot) (number offset : ℕ) (bytes buffer 
 unfolding writeReport
 write-leaves z a p number offset bytes buffer =
     leaves-by buffer (putInto buffer offset bytes) 7 (leb number 1 && eqb (length buffer) (areaOf z))
+    (leb (offset + length bytes) (areaOf z))
+    (a .taken || p .taken)
+
+-- ---- a post reports no steps, a store and a window write neither place nor steps
+judged-steps : (i : Illegal) → judgedBy i .steps ≡ 0
+judged-steps (At place) = refl
+judged-steps Nowhere = refl
+
+pub post-steps : (z : Sizes) (a p : Slot) (l : List ℕ) (start count : ℕ) → postReport z a p l start count .steps ≡ 0
+unfolding postReport
+post-steps z a p l start count =
+    let P : Report → Type 0 = λ t. t .steps ≡ 0 in
+    of-either P (eqb (length l) (5 * z .entries))
+    (of-either P (eqb count 0) refl
+    (of-either P (leb (start + count) (z .entries))
+    (of-either P (a .taken && p .taken) refl (judged-steps (firstIllegal l (spanOf start count))))
+    refl))
+    refl
+
+abbrev pub NumberAlone : Report → Type 0
+NumberAlone t = t ≡ report (t .number) 0 0
+
+lent-number : (x y : List ℕ) (number : ℕ) (long fits held : Bool)
+    → NumberAlone (cond long (cond fits (cond held (leaves number x) (leaves 0 y)) (leaves 4 x)) (leaves 2 x) .report)
+lent-number x y number long fits held =
+    let P : Lent → Type 0 = λ m. NumberAlone (m .report) in
+    of-either P long (of-either P fits (of-either P held refl refl) refl) refl
+
+pub store-number : (z : Sizes) (a p : Slot) (l : List ℕ) (first : ℕ) (bytes : List ℕ) → NumberAlone (storeReport z a p l first bytes .report)
+unfolding storeReport
+store-number z a p l first bytes =
+    lent-number l (putInto l (5 * first) bytes) 8 (eqb (length l) (5 * z .entries) && eqb (length bytes % 5) 0)
+    (leb (first + length bytes / 5) (z .entries))
+    (holdsAny a first (length bytes / 5) || holdsAny p first (length bytes / 5))
+
+pub write-number : (z : Sizes) (a p : Slot) (number offset : ℕ) (bytes buffer : List ℕ)
+    → NumberAlone (writeReport z a p number offset bytes buffer .report)
+unfolding writeReport
+write-number z a p number offset bytes buffer =
+    lent-number buffer (putInto buffer offset bytes) 7 (leb number 1 && eqb (length buffer) (areaOf z))
     (leb (offset + length bytes) (areaOf z))
     (a .taken || p .taken)
 

@@ -8,13 +8,13 @@ use native.Mathlib.Omega.{arith}
 use borrow.Author.Tests.{eqb-true, leb-true, leb-false, le-leb, lt-leb, ltb-true, lt-ltb}
 use lib.Dec.{eqb, leb, ltb}
 use Rattle.lemmas.proofs.Booleans.{by-cases, both, and-left, and-right, first-of, second-of}
-use Rattle.lists.specs.Spans.{endOf, spanOk, isNone}
+use Rattle.lists.specs.Spans.{endOf, spanOk, noSpan, isNone}
 use Rattle.lists.specs.Cursors.{cursorOn, cursorOk, endedOf, restOf}
 use Rattle.lists.specs.declared.spans.Span.{Span}
 use Rattle.lists.specs.declared.cursors.Cursor.{Cursor}
 use Rattle.lists.proofs.Rests.{rest-end}
 use Rattle.slots.specs.declared.record.Sizes.{Sizes}
-use Rattle.slots.specs.Slots.{sizesOk, activeOn, slotOk, activeOk}
+use Rattle.slots.specs.Slots.{sizesOk, slotWith, emptySlot, activeOn, slotOf, slotOk, activeOk}
 use Rattle.slots.specs.declared.record.Slot.{Slot}
 use Rattle.slots.specs.declared.record.Active.{Active}
 
@@ -62,6 +62,13 @@ none-end s h =
     let b = eqb-true (s .count) 0 (and-right (eqb (s .start) 0) (eqb (s .count) 0) h) in
     omega arith
 
+none-is : (s : Span) → isNone s ≡ true → s ≡ noSpan
+none-is s h i =
+    record {
+      start = eqb-true (s .start) 0 (and-left (eqb (s .start) 0) (eqb (s .count) 0) h) i;
+      count = eqb-true (s .count) 0 (and-right (eqb (s .start) 0) (eqb (s .count) 0) h) i;
+    }
+
 -- ---- cursors
 pub record Fetching (c : Cursor) : Type 0 where
   pub from : c .span .start ≤ c .next
@@ -106,6 +113,13 @@ module _ (s : Slot) (entries : ℕ) where
   pub taken-slot : s .taken ≡ true → spanOk (s .span) entries ≡ true → slotOk s entries ≡ true
   taken-slot t h = sym (first-of (s .taken) (spanOk (s .span) entries) (isNone (s .span)) t) ∙ h
 
+  -- a slot with a list, and a free one
+  pub slot-with : s .taken ≡ true → s ≡ slotWith (s .span)
+  slot-with t i = record { taken = t i; span = s .span }
+
+  pub slot-empty : slotOk s entries ≡ true → s .taken ≡ false → s ≡ emptySlot
+  slot-empty h t i = record { taken = t i; span = none-is (s .span) (slot-none h t) i }
+
   -- a free slot has no entries
   pub slot-rest : (l : List ℕ) → slotOk s entries ≡ true → s .taken ≡ false → restOf l (cursorOn (s .span)) ≡ []
   slot-rest l h t = rest-end l (cursorOn (s .span)) (omega (arith, none-end (s .span) (slot-none h t)))
@@ -135,6 +149,11 @@ module _ (a : Active) (entries : ℕ) (u : Bool) where
   -- a free slot has no entries, and its list ends at 0
   pub active-end : activeOk a entries u ≡ true → a .taken ≡ false → endOf (a .cursor .span) ≡ 0
   active-end h t = none-end (a .cursor .span) (and-left (isNone (a .cursor .span)) (eqb (a .cursor .next) 0) (active-zeros h t))
+
+  pub active-empty : activeOk a entries u ≡ true → a .taken ≡ false → slotOf a ≡ emptySlot
+  active-empty h t i =
+      let none = and-left (isNone (a .cursor .span)) (eqb (a .cursor .next) 0) (active-zeros h t) in
+      record { taken = t i; span = none-is (a .cursor .span) none i }
 
   pub active-rest : (l : List ℕ) → activeOk a entries u ≡ true → a .taken ≡ false → restOf l (a .cursor) ≡ []
   active-rest l h t = rest-end l (a .cursor) (omega (arith, active-end h t))

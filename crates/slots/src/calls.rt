@@ -49,7 +49,7 @@ pub fn post_status(z: Sizes, a: Slot, p: Slot, list: &[u8], start: usize, count:
         return Status::PastTheEnd;
     }
     if a.taken & p.taken {
-        return Status::SlotsTaken;
+        return Status::SlotsFull;
     }
     let span = Span {
         start: start as u32,
@@ -106,7 +106,7 @@ pub fn write_into(
         return Status::PastTheEnd;
     }
     if a.taken | p.taken {
-        return Status::SlotTaken;
+        return Status::Busy;
     }
     put(buffer, offset, bytes);
     Status::Done(0)

@@ -1,7 +1,7 @@
 -- The paper board that a board with its memories stands for, and that each step of the one is a step of the other.
 -- Assumes nothing.
 use mathlib.Core.Path.{_≡_, refl, ap, sym, subst, _∙_}
-use mathlib.Core.Bool.{Bool, true, false, cond}
+use mathlib.Core.Bool.{Bool, true, false, cond, false≢true}
 use mathlib.Core.List.{List, [], _∷_, _++_, append-nil}
 use Prim.Native.Nat.{ℕ, zero, suc, _+_, _*_}
 use native.Mathlib.Numerals.{add-one}
@@ -19,20 +19,20 @@ use Rattle.lists.specs.declared.cursors.Next.the-variants.{Ended, Visit, Take, 
 use Rattle.lists.proofs.Rests.{ended-resting, ended-rest, going-rest, legal-left, legal-right, legal-join}
 use Rattle.lists.proofs.Fetches.{chosen, tail-legal, never-broken}
 use Rattle.commands.specs.Steps.{Scene, scene, visitOf, takenOf}
-use Rattle.slots.specs.Slots.{areaOf, activeOn}
+use Rattle.slots.specs.Slots.{areaOf, activeOn, slotOf}
 use Rattle.slots.specs.declared.record.Active.{Active}
-use Rattle.slots.proofs.Slotted.{active-inside, active-rest, slot-rest}
+use Rattle.slots.proofs.Slotted.{slot-with, slot-empty, slot-rest, active-empty, active-inside, active-rest}
 use Rattle.board.specs.Record.{wellFormed}
 use Rattle.board.specs.Steps.{Machine, machine, nextOn, withSteps, settledOf, movedTo, sceneOf, actOf, stepOf}
 use Rattle.board.specs.Runs.{Outcome, added, byNext, runOf}
 use Rattle.board.specs.Left.{toCome}
 use Rattle.board.specs.declared.record.Board.{Board}
-use Rattle.board.proofs.Forms.{Good, good-of, active-of}
+use Rattle.board.proofs.Forms.{Good, good-of, active-of, none-waits}
 use Rattle.board.proofs.Keeps.{followed, holds-list, stays-well-formed, step-lengths, settled-sizes}
 use Rattle.board.proofs.Counts.{settled-to-come}
 use Rattle.statements.specs.Paper.{Item, posted, Paper, paper, flushed, leaving, fetching, stepBy, stepOn, stepsOn, queued}
 use Rattle.statements.specs.World.{World, world}
-use Rattle.statements.specs.Demand.{slotSpans, queueSpans}
+use Rattle.statements.specs.Demand.{queueSpans, SlotsHold}
 
 -- ---- the abstraction: what is left of the taken slots' lists is the queue
 abbrev pub itemsOf : List ℕ → Active → List Item
@@ -52,19 +52,41 @@ pub record Valid (w : World) : Type 0 where
   pub legal : AllLegal (toCome (w .list) (w .board))
 
 -- ---- spans and entries of the queue
-pub spans-same : (l : List ℕ) (b : Board) → slotSpans b ≡ queueSpans (queueOf l b)
+pub slots-hold : (l : List ℕ) (b : Board) → Good b → SlotsHold b (queueSpans (queueOf l b))
 unfolding queueSpans
-spans-same l b = by (b .active .taken) (b .pending .taken)
+slots-hold l b g = subst (SlotsHold b) (spans (b .active .taken) (b .pending .taken)) (hold (b .active .taken) (b .pending .taken) refl refl)
   where
-    by : (t u : Bool)
+    spans : (t u : Bool)
         → cond t (b .active .cursor .span ∷ []) [] ++ cond u (b .pending .span ∷ []) []
         ≡ queueSpans
         (cond t (posted (b .active .cursor .span) (restOf l (b .active .cursor)) ∷ []) []
         ++ cond u (posted (b .pending .span) (restOf l (cursorOn (b .pending .span))) ∷ []) [])
-    by true true = refl
-    by true false = refl
-    by false true = refl
-    by false false = refl
+    spans true true = refl
+    spans true false = refl
+    spans false true = refl
+    spans false false = refl
+
+    n : ℕ
+    n = b .sizes .entries
+
+    hold : (t u : Bool) → b .active .taken ≡ t → b .pending .taken ≡ u
+        → SlotsHold b (cond t (b .active .cursor .span ∷ []) [] ++ cond u (b .pending .span ∷ []) [])
+    unfolding n
+    hold true true e f =
+        record { active-front = slot-with (slotOf (b .active)) n e; pending-second = slot-with (b .pending) n f; no-third = refl }
+    hold true false e f =
+        record {
+          active-front = slot-with (slotOf (b .active)) n e;
+          pending-second = slot-empty (b .pending) n (g .pending) f;
+          no-third = refl;
+        }
+    hold false true e f = absurd (false≢true (sym (none-waits b g e) ∙ f))
+    hold false false e f =
+        record {
+          active-front = active-empty (b .active) n (b .engine .«under_way») (g .active) e;
+          pending-second = slot-empty (b .pending) n (g .pending) f;
+          no-third = refl;
+        }
 
 items-queued : (l : List ℕ) (a : Active) (q : List Item) → (a .taken ≡ false → restOf l (a .cursor) ≡ [])
     → queued (itemsOf l a ++ q) ≡ restOf l (a .cursor) ++ queued q
@@ -111,7 +133,7 @@ module _ (s : Scene) (l : List ℕ) (span : Span) (q : List Item) where
       ap (λ rest. leaving s l span rest q) p ∙ ap (λ t. cond t (paper s l (posted span [] ∷ q)) (flushed s l q)) u
 
 -- the list in front
-front : (l : List ℕ) (b : Board) → b .active .taken ≡ true
+pub front : (l : List ℕ) (b : Board) → b .active .taken ≡ true
     → queueOf l b ≡ posted (b .active .cursor .span) (restOf l (b .active .cursor)) ∷ itemsOf l (activeOn (b .pending))
 front l b t =
     ap (λ t. cond t (posted (b .active .cursor .span) (restOf l (b .active .cursor)) ∷ []) [] ++ itemsOf l (activeOn (b .pending))) t

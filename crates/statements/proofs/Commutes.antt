@@ -18,6 +18,7 @@ use Rattle.statements.specs.World.{World, Called, called}
 use Rattle.statements.specs.Demand.{Reports}
 use Rattle.statements.proofs.Abstract.{paperOf, Valid, machineOf, onto, Runs, runs, queue-to-come}
 use Rattle.statements.proofs.Kept.{Kept}
+use Rattle.statements.proofs.Empties.{empties}
 use Rattle.statements.proofs.Posting.{post-kept}
 use Rattle.statements.proofs.Storing.{store-kept}
 use Rattle.statements.proofs.Writing.{write-kept}
@@ -72,5 +73,4 @@ unfolding called
 reports (post start count) w v = tt
 reports (store first bytes) w v = tt
 reports (write number offset bytes) w v = tt
-reports (run budget) w v =
-    run-reports w budget v (runCall budget (w .list) (machineOf w)) (sym (run-is budget w v))
+reports (run budget) w v = (empties w v, run-reports w budget v (runCall budget (w .list) (machineOf w)) (sym (run-is budget w v)))

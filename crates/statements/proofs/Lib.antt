@@ -1,8 +1,11 @@
 pub mod Abstract
 pub mod Kept
+pub mod Empties
 pub mod Posting
 pub mod Storing
 pub mod Writing
 pub mod Commutes
 pub mod Sequence
+pub mod Refusals
+pub mod Images
 pub mod Rows

@@ -14,11 +14,11 @@ use Rattle.board.specs.Calls.{freshBoard, sizes}
 use Rattle.geometry.specs.declared.Extent.{Extent}
 use Rattle.lists.specs.Cursors.{entriesFrom}
 use Rattle.slots.specs.declared.record.Sizes.{Sizes}
-use Rattle.board.proofs.Forms.{Good, well-of}
+use Rattle.board.proofs.Forms.{Good, good-of, well-of}
 use Rattle.statements.specs.Paper.{Call, Paper, paper, fed}
-use Rattle.statements.specs.World.{World, world, Called, called}
-use Rattle.statements.specs.Demand.{queueSpans, Equal, Reports, Throughout, Demand3}
-use Rattle.statements.proofs.Abstract.{paperOf, Valid, spans-same}
+use Rattle.statements.specs.World.{World, world, Called, called, answersTo}
+use Rattle.statements.specs.Demand.{queueSpans, SlotsHold, Equal, Reports, Throughout, Demand3}
+use Rattle.statements.proofs.Abstract.{paperOf, Valid, slots-hold}
 use Rattle.statements.proofs.Kept.{Kept}
 use Rattle.statements.proofs.Commutes.{keeps, reports}
 
@@ -30,14 +30,16 @@ equals w c o p k e =
       list-same = ap (λ p. p .list) e;
       registers-same = ap (λ p. p .drawing .engine .registers) e;
       pattern-same = ap (λ p. p .drawing .engine .pattern) e;
-      spans-same = spans-same (o .after .list) (o .after .board) ∙ ap (λ p. queueSpans (p .queue)) e;
+      slots-hold =
+          subst (λ p. SlotsHold (o .after .board) (queueSpans (p .queue))) e
+          (slots-hold (o .after .list) (o .after .board) (good-of (o .after .board) (k .valid .well)));
       not-malformed = k .not-malformed;
       no-nine = k .no-nine;
     }
 
 throughout : (extent : Extent) (calls : List Call) (w : World) (p : Paper) → Valid w → w .board .sizes .extent ≡ extent → paperOf w ≡ p
-    → Throughout extent calls w p
-unfolding Throughout
+    → Throughout extent calls (answersTo calls w) p
+unfolding Throughout answersTo
 throughout extent [] w p v a e = tt
 throughout extent (c ∷ calls) w p v a e =
     let k = keeps c w v in

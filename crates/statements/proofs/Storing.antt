@@ -30,7 +30,7 @@ use Rattle.statements.specs.World.{World, world, Called, called}
 use Rattle.statements.proofs.Abstract.{Valid}
 use Rattle.statements.proofs.Kept.{Kept, refused}
 
-abbrev storedOf : World → Written → Called
+abbrev pub storedOf : World → Written → Called
 storedOf w r = record { report = r .report; after = world (r .board) (r .memory) (w .display) (w .virt) }
 
 module _ (w : World) (v : Valid w) (first : ℕ) (bytes : List ℕ) where

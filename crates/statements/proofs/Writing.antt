@@ -1,6 +1,6 @@
 -- A window write does to the board what feeding it does to the paper board.
 -- Assumes nothing.
-use mathlib.Core.Path.{_≡_, refl, ap, ap₂, sym, subst, _∙_}
+use mathlib.Core.Path.{_≡_, refl, ap, sym, subst, _∙_}
 use mathlib.Core.Bool.{true, false, cond, _&&_, _||_}
 use mathlib.Core.List.{List, [], _∷_, _++_}
 use Prim.Native.Nat.{ℕ, _+_, _≤_}
@@ -8,29 +8,30 @@ use native.Mathlib.Omega.{arith}
 use borrow.Author.Tests.{leb-true, leb-false}
 use lib.Dec.{eqb, leb}
 use lib.ListN.{length}
-use Rattle.lemmas.proofs.Booleans.{by-cases, or-none-left, or-none-right}
+use Rattle.lemmas.proofs.Booleans.{by-cases, or-none-left}
 use Rattle.commands.specs.Steps.{Scene, scene}
 use Rattle.answers.specs.Reports.{report}
 use Rattle.lemmas.specs.Memory.{putInto}
 use Rattle.lemmas.proofs.Memories.{put-length}
-use Rattle.slots.specs.Slots.{areaOf, activeOn, slotOf}
+use Rattle.slots.specs.Slots.{areaOf, slotOf}
 use Rattle.slots.specs.Calls.{Lent, writeReport}
 use Rattle.slots.proofs.Grounds.{write-wrong-size, write-past, write-busy, write-done}
 use Rattle.board.specs.Calls.{Written, kept, keptBy, writeCall}
+use Rattle.board.proofs.Forms.{good-of}
 use Rattle.board.proofs.Replies.{write-by}
 use Rattle.statements.specs.Paper.{write, window, paper, writtenTo, flushed, fed}
 use Rattle.statements.specs.World.{World, world, Called, called}
 use Rattle.statements.proofs.Abstract.{queueOf, Valid}
-use Rattle.statements.proofs.Kept.{Kept, refused, no-items}
+use Rattle.statements.proofs.Kept.{Kept, refused, idle-queue}
+
+-- what a window write answers, with the world after it
+abbrev pub toDisplay : World → Written → Called
+toDisplay w r = record { report = r .report; after = world (r .board) (w .list) (r .memory) (w .virt) }
+
+abbrev pub toVirtual : World → Written → Called
+toVirtual w r = record { report = r .report; after = world (r .board) (w .list) (w .display) (r .memory) }
 
 module _ (w : World) (v : Valid w) (number offset : ℕ) (bytes : List ℕ) where
-  -- a board at rest has an empty queue
-  idle-queue : (w .board .active .taken || w .board .pending .taken) ≡ false → queueOf (w .list) (w .board) ≡ []
-  idle-queue u =
-      let b = w .board in
-      ap₂ _++_ (no-items (w .list) (b .active) (or-none-left (b .active .taken) (b .pending .taken) u))
-      (no-items (w .list) (activeOn (b .pending)) (or-none-right (b .active .taken) (b .pending .taken) u))
-
   write-refused : (answer : ℕ) → (answer ≡ 0 → ⊥) → (answer ≡ 1 → ⊥) → (answer ≡ 9 → ⊥)
       → Kept w (write number offset bytes) (record { report = kept answer (w .board) (w .list) .report; after = w })
   unfolding fed
@@ -43,7 +44,8 @@ module _ (w : World) (v : Valid w) (number offset : ℕ) (bytes : List ℕ) wher
       ≡ paper s (w .list) (queueOf (w .list) (w .board))
   unfolding flushed
   written-at-once s u e =
-      let empty = idle-queue u in
+      let b = w .board in
+      let empty = idle-queue (w .list) b (good-of b (v .well)) (or-none-left (b .active .taken) (b .pending .taken) u) in
       ap (λ q. flushed (scene (w .board .engine) (w .display) (w .virt)) (w .list) (q ++ (window number offset bytes ∷ []))) empty
       ∙ ap (λ s. paper s (w .list) []) e ∙ ap (paper s (w .list)) (sym empty)
 
@@ -77,12 +79,6 @@ module _ (w : World) (v : Valid w) (number offset : ℕ) (bytes : List ℕ) wher
       (refused 4 (λ e. omega arith) (λ e. omega arith) (λ e. omega arith))))
       (λ t. subst K (write-wrong-size z s q number offset bytes buffer t) (refused 2 (λ e. omega arith) (λ e. omega arith) (λ e. omega arith))))
 
-  abbrev toDisplay : Written → Called
-  toDisplay r = record { report = r .report; after = world (r .board) (w .list) (r .memory) (w .virt) }
-
-  abbrev toVirtual : Written → Called
-  toVirtual r = record { report = r .report; after = world (r .board) (w .list) (w .display) (r .memory) }
-
   -- a done write: buffers of the same lengths, as the paper board writes them
   write-puts : (d e : List ℕ) → length d ≡ length (w .display) → length e ≡ length (w .virt)
       → (w .board .active .taken || w .board .pending .taken) ≡ false
@@ -107,7 +103,7 @@ module _ (w : World) (v : Valid w) (number offset : ℕ) (bytes : List ℕ) wher
 
   display-done : eqb number 0 ≡ true → offset + length bytes ≤ areaOf (w .board .sizes)
       → (w .board .active .taken || w .board .pending .taken) ≡ false
-      → Kept w (write number offset bytes) (toDisplay (kept 0 (w .board) (putInto (w .display) offset bytes)))
+      → Kept w (write number offset bytes) (toDisplay w (kept 0 (w .board) (putInto (w .display) offset bytes)))
   display-done t fits u =
       let d = putInto (w .display) offset bytes in
       let e = w .board .engine in
@@ -116,7 +112,7 @@ module _ (w : World) (v : Valid w) (number offset : ℕ) (bytes : List ℕ) wher
 
   virtual-done : eqb number 0 ≡ false → offset + length bytes ≤ areaOf (w .board .sizes)
       → (w .board .active .taken || w .board .pending .taken) ≡ false
-      → Kept w (write number offset bytes) (toVirtual (kept 0 (w .board) (putInto (w .virt) offset bytes)))
+      → Kept w (write number offset bytes) (toVirtual w (kept 0 (w .board) (putInto (w .virt) offset bytes)))
   virtual-done t fits u =
       let d = putInto (w .virt) offset bytes in
       let e = w .board .engine in
@@ -128,8 +124,8 @@ module _ (w : World) (v : Valid w) (number offset : ℕ) (bytes : List ℕ) wher
   write-kept =
       let b = w .board in
       let c = write number offset bytes in
-      let onDisplay = toDisplay (writeCall number offset bytes (w .display) b) in
-      let onVirtual = toVirtual (writeCall number offset bytes (w .virt) b) in
+      let onDisplay = toDisplay w (writeCall number offset bytes (w .display) b) in
+      let onVirtual = toVirtual w (writeCall number offset bytes (w .virt) b) in
       by-cases (eqb number 0)
-      (λ t. subst (λ t. Kept w c (cond t onDisplay onVirtual)) (sym t) (write-checked (w .display) toDisplay write-refused (display-done t)))
-      (λ t. subst (λ t. Kept w c (cond t onDisplay onVirtual)) (sym t) (write-checked (w .virt) toVirtual write-refused (virtual-done t)))
+      (λ t. subst (λ t. Kept w c (cond t onDisplay onVirtual)) (sym t) (write-checked (w .display) (toDisplay w) write-refused (display-done t)))
+      (λ t. subst (λ t. Kept w c (cond t onDisplay onVirtual)) (sym t) (write-checked (w .virt) (toVirtual w) write-refused (virtual-done t)))

@@ -1,4 +1,6 @@
 pub mod Paper
 pub mod World
 pub mod Demand
+pub mod Refusals
+pub mod Images
 pub mod Examples

@@ -1,6 +1,6 @@
 -- A board with its memories, and what each call does to them, by the definitions that the contracts of `board` cite.
 use mathlib.Core.Bool.{cond}
-use mathlib.Core.List.{List}
+use mathlib.Core.List.{List, [], _∷_}
 use Prim.Native.Nat.{ℕ}
 use lib.Dec.{eqb}
 use Rattle.answers.specs.Reports.{Report}
@@ -39,3 +39,8 @@ called (write number offset bytes) w =
 called (run budget) w =
     let r = runCall budget (w .list) (machine (w .board) (w .display) (w .virt)) in
     record { report = r .report; after = world (r .after .board) (w .list) (r .after .display) (r .after .virt) }
+
+-- What the calls of a sequence answer, each on what the last one left.
+unfoldable pub answersTo : List Call → World → List Called
+answersTo [] w = []
+answersTo (c ∷ cs) w = called c w ∷ answersTo cs (called c w .after)

@@ -1,28 +1,36 @@
 // Document 01's example of two lists: one list posted twice and a third time, run in pieces, with a store into its entries
-// before and after it has ended. Each call's answer, steps and the lists that are left are printed.
+// before and after it has ended. After the run of 9 steps the first of the two has ended and the second is active.
 use board::Answer;
 use board::Board;
 use libc::STDOUT_FILENO;
+use slots::Slot;
 
-// How many slots are taken.
-fn lists(b: Board) -> u64 {
-    let s = b.active;
-    let p = b.pending;
-    if p.taken {
-        return 2;
+fn print_slot(name: &[u8], s: Slot) {
+    let list = s.span;
+    io::write_all(STDOUT_FILENO, name);
+    if s.taken {
+        io::print_decimal(STDOUT_FILENO, list.start as u64);
+        io::write_all(STDOUT_FILENO, b"+");
+        io::print_decimal(STDOUT_FILENO, list.count as u64);
+    } else {
+        io::write_all(STDOUT_FILENO, b"free");
     }
-    if s.taken { 1 } else { 0 }
 }
 
+// The answer and the steps; then the active list as start+count with its next entry, and the pending list.
 fn tell(call: &[u8], a: Answer) {
     let status = a.status;
     let b = a.board;
+    let active = b.active;
+    let cursor = active.cursor;
     io::write_all(STDOUT_FILENO, call);
     io::print_decimal(STDOUT_FILENO, status.number() as u64);
     io::write_all(STDOUT_FILENO, b" steps ");
     io::print_decimal(STDOUT_FILENO, status.steps());
-    io::write_all(STDOUT_FILENO, b" lists ");
-    io::print_decimal(STDOUT_FILENO, lists(b));
+    print_slot(b" active ", active.slot());
+    io::write_all(STDOUT_FILENO, b" next ");
+    io::print_decimal(STDOUT_FILENO, cursor.next as u64);
+    print_slot(b" pending ", b.pending);
     io::write_all(STDOUT_FILENO, b"\n");
 }
 

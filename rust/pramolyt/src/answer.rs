@@ -22,14 +22,14 @@ pub enum Answer {
     /// 4: a span passes the end of its memory.
     PastTheEnd,
     /// 5: both slots are taken.
-    SlotsTaken,
+    SlotsFull,
     /// 6: the list has an illegal entry.
     IllegalEntry {
         /// The first one, counted over the whole list memory.
         place: u64,
     },
     /// 7: a window write while a slot is taken.
-    SlotTaken,
+    Busy,
     /// 8: a store touches an entry of a list in a slot.
     EntryHeld,
     /// 9: a run came to an illegal entry.
@@ -48,9 +48,9 @@ impl Answer {
             (2, 0, 0) => Answer::WrongSize,
             (3, 0, 0) => Answer::NoEntries,
             (4, 0, 0) => Answer::PastTheEnd,
-            (5, 0, 0) => Answer::SlotsTaken,
+            (5, 0, 0) => Answer::SlotsFull,
             (6, place, 0) => Answer::IllegalEntry { place },
-            (7, 0, 0) => Answer::SlotTaken,
+            (7, 0, 0) => Answer::Busy,
             (8, 0, 0) => Answer::EntryHeld,
             (9, 0, steps) => Answer::IllegalFetch { steps },
             _ => unreachable!("answer {number}, place {place}, steps {steps}"),
@@ -65,9 +65,9 @@ impl Answer {
             Answer::WrongSize => 2,
             Answer::NoEntries => 3,
             Answer::PastTheEnd => 4,
-            Answer::SlotsTaken => 5,
+            Answer::SlotsFull => 5,
             Answer::IllegalEntry { .. } => 6,
-            Answer::SlotTaken => 7,
+            Answer::Busy => 7,
             Answer::EntryHeld => 8,
             Answer::IllegalFetch { .. } => 9,
         }
@@ -110,13 +110,13 @@ impl fmt::Display for Answer {
             ),
             Answer::NoEntries => write!(f, "the list has no entries"),
             Answer::PastTheEnd => write!(f, "the span passes the end of its memory"),
-            Answer::SlotsTaken => {
+            Answer::SlotsFull => {
                 write!(f, "two lists are waiting already; run one to its end first")
             }
             Answer::IllegalEntry { place } => {
                 write!(f, "entry {place} is illegal; the list was not posted")
             }
-            Answer::SlotTaken => write!(
+            Answer::Busy => write!(
                 f,
                 "a list is still to be drawn; run it to its end before writing a buffer"
             ),

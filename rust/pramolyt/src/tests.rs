@@ -61,7 +61,7 @@ fn slots_and_entries_are_held() {
     let mut bench = Bench::new();
     assert_eq!(bench.post(0, 4), DONE);
     assert_eq!(bench.post(0, 4), DONE);
-    assert_eq!(bench.post(0, 4), Answer::SlotsTaken);
+    assert_eq!(bench.post(0, 4), Answer::SlotsFull);
     assert_eq!(bench.store(3, &LINE), Answer::EntryHeld);
     assert_eq!(bench.store(4, &LINE), DONE);
 }
@@ -144,7 +144,7 @@ fn a_window_write_needs_an_idle_board() {
     assert_eq!(bench.post(0, 4), DONE);
     assert_eq!(
         bench.board.window_write(VIRTUAL, 0, &[5], &mut bench.virt),
-        Answer::SlotTaken
+        Answer::Busy
     );
 }
 

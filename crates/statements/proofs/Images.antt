@@ -1,0 +1,120 @@
+-- Demand 3 through C: on the image of a record the exported functions answer what the calls of the record do, and leave its
+-- image; so a sequence through C answers what the sequence of calls does.
+-- Assumes nothing.
+use mathlib.Core.Path.{_≡_, refl, ap, ap₂, sym, subst, _∙_}
+use mathlib.Core.Bool.{Bool, true, false, cond}
+use mathlib.Core.List.{List, [], _∷_}
+use Prim.Native.Nat.{ℕ}
+use native.Mathlib.Omega.{arith}
+use lib.Dec.{eqb}
+use Rattle.lemmas.proofs.Booleans.{by-cases}
+use Rattle.answers.specs.Reports.{report}
+use Rattle.commands.specs.Steps.{scene, freshEngine}
+use Rattle.slots.specs.Slots.{sizesOk}
+use Rattle.slots.proofs.Grounds.{NumberAlone}
+use Rattle.board.specs.Steps.{machine}
+use Rattle.board.specs.Runs.{runCall}
+use Rattle.board.specs.Calls.{answered, freshBoard, sizes, makeCall, postCall, Written, storeCall, writeCall}
+use Rattle.board.specs.declared.record.Board.{Board}
+use Rattle.board.proofs.Replies.{post-no-steps, store-no-more, write-no-more, run-no-place}
+use Rattle.pramolyt.specs.Image.{wordsOf, boardOf}
+use Rattle.pramolyt.specs.Exports.{ofImage, madeBy, makeImage, Posted, posted, postedBy, postImage, Changed, changed, changedBy, storeImage, writeImage, Ran, ran, ranBy, runImage}
+use Rattle.pramolyt.proofs.RoundTrips.{decodes-encoded, encodes-flags}
+use Rattle.statements.specs.Paper.{Call, post, store, write, run, paper}
+use Rattle.statements.specs.World.{World, world, Called, called, answersTo}
+use Rattle.statements.specs.Demand.{Throughout}
+use Rattle.statements.specs.Images.{Caller, caller, Returned, returned, worldIn, returnsTo, Demand3InC}
+use Rattle.statements.proofs.Sequence.{demand3}
+
+-- a world, and what a call answers, with the image in place of the record
+abbrev imageOf : World → Caller
+imageOf w = caller (wordsOf (w .board)) (w .list) (w .display) (w .virt)
+
+abbrev returnOf : Called → Returned
+returnOf c = record { report = c .report; after = imageOf (c .after) }
+
+-- what a function makes of the image of a record
+of-image : {A : Type 0} (b : Board) (f : Board → A) (refused : A) → ofImage (wordsOf b) (f (boardOf (wordsOf b))) refused ≡ f b
+of-image b f refused = ap (λ t. cond t (f (boardOf (wordsOf b))) refused) (encodes-flags b) ∙ ap f (decodes-encoded b)
+
+module _ (w : World) where
+  abbrev b : Board
+  b = w .board
+
+  -- a changed memory, put back among the others
+  changed-return : (m : List ℕ) (lent : List ℕ → List ℕ → Caller) (call : Board → Written) → NumberAlone (call (w .board) .report) →
+      let r = ofImage (wordsOf (w .board)) (changedBy (call (boardOf (wordsOf (w .board))))) (changed 1 (wordsOf (w .board)) m) in
+      _≡_ {A = Returned} (record { report = report (r .number) 0 0; after = lent (r .words) (r .memory) })
+      (record { report = call (w .board) .report; after = lent (wordsOf (call (w .board) .board)) (call (w .board) .memory) })
+  changed-return m lent call alone =
+      ap (λ (r : Changed). record { report = report (r .number) 0 0; after = lent (r .words) (r .memory) })
+      (of-image b (λ b. changedBy (call b)) (changed 1 (wordsOf b) m))
+      ∙ ap (λ t. record { report = t; after = lent (wordsOf (call b .board)) (call b .memory) }) (sym alone)
+
+  returns-by : (number offset : ℕ) (bytes : List ℕ) (t : Bool) (d v : Returned) (c e : Called) → d ≡ returnOf c → v ≡ returnOf e
+      → cond t d v ≡ returnOf (cond t c e)
+  returns-by number offset bytes true d v c e p q = p
+  returns-by number offset bytes false d v c e p q = q
+
+  return-same : (c : Call) → returned c (imageOf w) ≡ returnOf (called c w)
+  unfolding returned called postImage storeImage writeImage runImage
+  return-same (post start count) =
+      let r = postCall (w .list) start count b in
+      let none = sym (post-no-steps (w .list) start count b) in
+      ap (λ (r : Posted). record { report = report (r .number) (r .place) 0; after = caller (r .words) (w .list) (w .display) (w .virt) })
+      (of-image b (λ b. postedBy (postCall (w .list) start count b)) (posted 1 (wordsOf b) 0))
+      ∙ (λ i.
+      record {
+        report = report (r .report .number) (r .report .place) (none i);
+        after = caller (wordsOf (r .board)) (w .list) (w .display) (w .virt);
+      })
+  return-same (store first bytes) =
+      changed-return (w .list) (λ words memory. caller words memory (w .display) (w .virt)) (storeCall (w .list) first bytes)
+      (store-no-more (w .list) first bytes b)
+  return-same (write number offset bytes) =
+      returns-by number offset bytes (eqb number 0) _ _ _ _
+      (changed-return (w .display) (λ words memory. caller words (w .list) memory (w .virt)) (writeCall number offset bytes (w .display))
+      (write-no-more number offset bytes (w .display) b))
+      (changed-return (w .virt) (λ words memory. caller words (w .list) (w .display) memory) (writeCall number offset bytes (w .virt))
+      (write-no-more number offset bytes (w .virt) b))
+  return-same (run budget) =
+      let o = runCall budget (w .list) (machine b (w .display) (w .virt)) in
+      let none = sym (run-no-place budget (w .list) (machine b (w .display) (w .virt))) in
+      ap (λ (r : Ran). record { report = report (r .number) 0 (r .steps); after = caller (r .words) (w .list) (r .display) (r .virt) })
+      (of-image b (λ b. ranBy (runCall budget (w .list) (machine b (w .display) (w .virt)))) (ran 1 (wordsOf b) 0 (w .display) (w .virt)))
+      ∙ (λ i.
+      record {
+        report = report (o .report .number) (none i) (o .report .steps);
+        after = caller (wordsOf (o .after .board)) (w .list) (o .after .display) (o .after .virt);
+      })
+
+returns-same : (calls : List Call) (w : World) → returnsTo calls (imageOf w) ≡ answersTo calls w
+unfolding returnsTo answersTo
+returns-same [] w = refl
+returns-same (c ∷ calls) w =
+    let a = called c w in
+    let v = a .after in
+    ap (λ (r : Returned). record { report = r .report; after = worldIn (r .after) } ∷ returnsTo calls (r .after)) (return-same w c)
+    ∙ ap₂ _∷_ (ap (λ b. record { report = a .report; after = world b (v .list) (v .display) (v .virt) }) (decodes-encoded (v .board)))
+    (returns-same calls v)
+
+-- made: the fresh board's image, where the sizes are within the limits
+made-fresh : (width height entries : ℕ) → makeImage width height entries .number ≡ 0
+    → (sizesOk (sizes width height entries) ≡ true) × (makeImage width height entries .words ≡ wordsOf (freshBoard (sizes width height entries)))
+unfolding makeImage makeCall
+made-fresh width height entries h =
+    let z = sizes width height entries in
+    let reply = λ (t : Bool). cond t (answered 0 0 (freshBoard z)) (answered 2 0 (freshBoard (sizes 1 1 1))) in
+    by-cases (sizesOk z) (λ t. (t, ap (λ t. wordsOf (reply t .board)) t))
+    (λ t. absurd (two (ap (λ t. reply t .report .number) t) h))
+  where
+    two : {n : ℕ} → n ≡ 2 → n ≡ 0 → ⊥
+    two p q = omega arith
+
+pub demand3-in-c : Demand3InC
+demand3-in-c width height entries h list display virt list-long display-long virt-long calls =
+    let z = sizes width height entries in
+    let made = made-fresh width height entries h in
+    let same = ap (λ words. returnsTo calls (caller words list display virt)) (made .1) ∙ returns-same calls (world (freshBoard z) list display virt) in
+    subst (λ answers. Throughout (z .extent) calls answers (paper (scene freshEngine display virt) list [])) (sym same)
+    (demand3 width height entries (made .0) list display virt list-long display-long virt-long calls)
