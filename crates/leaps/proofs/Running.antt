@@ -1,12 +1,14 @@
 -- Steps of a list one after the other: many pixels at once, and the loop over entries and commands.
 -- Assumes nothing.
-use mathlib.Core.Path.{_≡_, refl, ap, sym, _∙_}
-use mathlib.Core.Bool.{Bool, true, false, cond, false≢true}
+use mathlib.Core.Path.{_≡_, refl, ap, ap₂, sym, _∙_}
+use mathlib.Core.Bool.{Bool, true, false, not, cond, _&&_, false≢true}
 use mathlib.Core.List.{List}
 use Prim.Native.Nat.{ℕ, zero, suc, _+_, _-_, _≤_, _<_, min, max}
 use native.Mathlib.Omega.{arith}
-use borrow.Author.Tests.{lt-ltb, le-ltb}
+use borrow.Author.Tests.{lt-ltb, le-ltb, ltb-true, ltb-false}
+use lib.Dec.{ltb}
 use lib.ListN.{length}
+use Rattle.lemmas.proofs.Booleans.{by-cases}
 use Rattle.geometry.specs.declared.Extent.{Extent}
 use Rattle.entries.specs.declared.decoding.Entry.{Entry}
 use Rattle.lists.specs.Spans.{endOf}
@@ -14,12 +16,13 @@ use Rattle.lists.specs.Cursors.{nextOf, fetchedOf, endedOf}
 use Rattle.lists.specs.declared.cursors.Cursor.{Cursor}
 use Rattle.lists.specs.declared.cursors.Next.{Next}
 use Rattle.lists.specs.declared.cursors.Next.the-variants.{Ended, Visit, Take, Broken}
-use Rattle.lists.proofs.Fetches.{next-visit, next-over, chosen}
+use Rattle.lists.proofs.Fetches.{next-visit, next-over, broken-going, chosen}
 use Rattle.commands.specs.Visits.{countOf}
 use Rattle.commands.specs.Steps.{Scene, scene, advancedOf, visitOf, visitsOf, enteredOf, takenOf}
 use Rattle.commands.specs.declared.Engine.{Engine}
 use Rattle.commands.proofs.Bounds.{count-same}
-use Rattle.leaps.specs.ListRuns.{Reached, stopped, longer, byStep, runFrom, listRun, VisitsDone}
+use Rattle.leaps.specs.declared.list_runs.Progress.{Progress}
+use Rattle.leaps.specs.ListRuns.{Reached, GoesTo, stopped, longer, byStep, runFrom, listRun, VisitsDone}
 
 -- ---- sums of steps
 
@@ -92,6 +95,23 @@ within-more : (budget : ℕ) (c : Cursor) (s : Scene) (d : Cursor) (t : Scene) (
 within-more budget c s d t r w =
     record { few = omega (arith, w .few); early = λ f. omega (arith, w .early f); some = λ live asked f. omega arith }
 
+-- whether an illegal entry ended them, asked afterwards
+abbrev endsBroken : ℕ → Reached → Bool
+endsBroken budget r = ltb (r .steps) budget && not (endedOf (r .cursor) (r .after .engine .«under_way»))
+
+broken-more : (budget : ℕ) (r : Reached) → endsBroken (suc budget) (longer 1 r) ≡ endsBroken budget r
+broken-more budget r = ap (λ t. t && not (endedOf (r .cursor) (r .after .engine .«under_way»))) (one-more (r .steps) budget)
+  where
+    one-more : (k n : ℕ) → ltb (k + 1) (suc n) ≡ ltb k n
+    one-more k n =
+        by-cases (ltb k n) (λ t. lt-ltb (k + 1) (suc n) (omega (arith, ltb-true k n t)) ∙ sym t)
+        (λ t. le-ltb (k + 1) (suc n) (omega (arith, ltb-false k n t)) ∙ sym t)
+
+-- steps that go to where a run does, with what ended it
+pub goes-to : (r : Progress) (d v : List ℕ) (broken : Bool) (o : Reached)
+    → _≡_ {A = Reached} (record { steps = r .steps; cursor = r .cursor; after = scene (r .engine) d v; broken = broken }) o → GoesTo r d v o
+goes-to r d v broken o e i = record { steps = e i .steps; cursor = e i .cursor; after = e i .after; broken = o .broken }
+
 -- ---- runs of a list
 
 module _ (l : List ℕ) (extent : Extent) where
@@ -141,6 +161,21 @@ module _ (l : List ℕ) (extent : Extent) where
       go rest (Take x) e =
           within-more budget c s (fetchedOf c) (takenOf extent s x) (from budget (fetchedOf c) (takenOf extent s x)) (rest (fetchedOf c) (takenOf extent s x))
       go rest Broken e = record { few = omega arith; early = λ _. omega arith; some = λ live asked f. absurd (false≢true (sym f)) }
+
+  -- an illegal entry ended the steps where they are fewer than the budget and the list has not ended
+  pub broken-is : (budget : ℕ) (c : Cursor) (s : Scene) → endsBroken budget (from budget c s) ≡ from budget c s .broken
+  unfolding runFrom
+  broken-is zero c s = refl
+  broken-is (suc budget) c s = go (broken-is budget) (nextOf l c (s .engine .«under_way»)) refl
+    where
+      go : ((c : Cursor) (s : Scene) → endsBroken budget (from budget c s) ≡ from budget c s .broken) → (x : Next)
+          → nextOf l c (s .engine .«under_way») ≡ x →
+          let r = byStep extent x c s (from budget c (visitOf extent s)) (from budget) in
+          endsBroken (suc budget) r ≡ r .broken
+      go rest Ended e = ap₂ _&&_ (lt-ltb 0 (suc budget) (omega arith)) (ap not (next-over l c (s .engine .«under_way») e))
+      go rest Visit e = broken-more budget (from budget c (visitOf extent s)) ∙ rest c (visitOf extent s)
+      go rest (Take x) e = broken-more budget (from budget (fetchedOf c) (takenOf extent s x)) ∙ rest (fetchedOf c) (takenOf extent s x)
+      go rest Broken e = ap₂ _&&_ (lt-ltb 0 (suc budget) (omega arith)) (ap not (broken-going l c (s .engine .«under_way») e))
 
   -- the loop: k steps are done, and the rest of the run is that from here
   pub record Going (budget : ℕ) (c₀ : Cursor) (s₀ : Scene) (k : ℕ) (c : Cursor) (s : Scene) : Type 0 where
@@ -233,3 +268,13 @@ module _ (l : List ℕ) (extent : Extent) where
   pub run-none : (budget : ℕ) (c : Cursor) (s : Scene) → 4294967296 ≤ endOf (c .span) → stopped c s false ≡ listRun budget l extent c s
   unfolding listRun
   run-none budget c s h = ap (λ t. cond t (from budget c s) (stopped c s false)) (sym (le-ltb (endOf (c .span)) 4294967296 h))
+
+  -- what ended the steps, asked where they went to
+  pub ran-list : (budget : ℕ) (c : Cursor) (s : Scene) (r : Progress) (d v : List ℕ) (t : Bool) → endOf (c .span) < 4294967296
+      → GoesTo r d v (from budget c s) → t ≡ endedOf (r .cursor) (r .engine .«under_way»)
+      → _≡_ {A = Reached} (record { steps = r .steps; cursor = r .cursor; after = scene (r .engine) d v; broken = ltb (r .steps) budget && not t })
+      (listRun budget l extent c s)
+  ran-list budget c s r d v t fits goes ended =
+      let same = ap (λ t. ltb (r .steps) budget && not t) ended ∙ ap (endsBroken budget) goes ∙ broken-is budget c s in
+      (λ i. record { steps = r .steps; cursor = r .cursor; after = scene (r .engine) d v; broken = same i })
+      ∙ goes ∙ run-fits budget c s fits

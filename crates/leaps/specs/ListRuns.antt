@@ -11,6 +11,7 @@ use Rattle.lists.specs.declared.cursors.Cursor.{Cursor}
 use Rattle.lists.specs.declared.cursors.Next.{Next}
 use Rattle.lists.specs.declared.cursors.Next.the-variants.{Ended, Visit, Take, Broken}
 use Rattle.commands.specs.Steps.{Scene, scene, visitOf, visitsOf, takenOf}
+use Rattle.leaps.specs.declared.list_runs.Progress.{Progress}
 use Rattle.leaps.specs.declared.list_runs.ListRun.{ListRun}
 
 -- Steps done, with the list and the scene after them, and whether an illegal entry ended them.
@@ -22,6 +23,10 @@ pub record Reached : Type 0 where
 
 abbrev pub reached : ListRun → List ℕ → List ℕ → Reached
 reached r d v = record { steps = r .steps; cursor = r .cursor; after = scene (r .engine) d v; broken = r .broken }
+
+-- The same but for what ended them.
+abbrev pub GoesTo : Progress → List ℕ → List ℕ → Reached → Type 0
+GoesTo r d v o = _≡_ {A = Reached} (record { steps = r .steps; cursor = r .cursor; after = scene (r .engine) d v; broken = o .broken }) o
 
 abbrev pub stopped : Cursor → Scene → Bool → Reached
 stopped c s broken = record { steps = 0; cursor = c; after = s; broken = broken }

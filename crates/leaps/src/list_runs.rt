@@ -4,7 +4,7 @@ ghost use mathlib.Core.Bool.{true};
 ghost use Prim.Native.Nat.{_<_};
 ghost use Rattle.lists.specs.Spans.{endOf};
 ghost use Rattle.commands.specs.Steps.{scene};
-ghost use Rattle.leaps.specs.ListRuns.{reached, runFrom, listRun, VisitsDone};
+ghost use Rattle.leaps.specs.ListRuns.{reached, GoesTo, runFrom, listRun, VisitsDone};
 use crate::visits::visit_counted;
 use commands::Engine;
 use geometry::Extent;
@@ -35,12 +35,11 @@ fn visit_up_to(e: Engine, extent: Extent, budget: u64, display: &mut [u8], virt:
     }
 }
 
-// Steps of a list: the engine and the list after them, and whether an illegal entry ended them within the budget.
-pub struct ListRun {
+// Steps of a list: the engine and the list after them.
+pub struct Progress {
     pub engine: Engine,
     pub cursor: Cursor,
     pub steps: u64,
-    pub broken: bool,
 }
 
 // The steps of a list whose end fits 32 bits.
@@ -52,9 +51,9 @@ fn run_from(
     list: &[u8],
     display: &mut [u8],
     virt: &mut [u8],
-) -> ListRun
+) -> Progress
     requires { ⌜ endOf (cursor .span) < 4294967296 ⌝ }
-    ensures { λ r. ⌜ reached r (now (display .exit)) (now (virt .exit)) ≡ runFrom budget (now (list .entry)) extent cursor (scene start (now (display .entry)) (now (virt .entry))) ⌝ }
+    ensures { λ r. ⌜ GoesTo r (now (display .exit)) (now (virt .exit)) (runFrom budget (now (list .entry)) extent cursor (scene start (now (display .entry)) (now (virt .entry)))) ⌝ }
 {
     let mut e = start;
     let mut c = cursor;
@@ -72,29 +71,34 @@ fn run_from(
                 k = k + 1;
             }
             Next::Ended => {
-                return ListRun {
+                return Progress {
                     engine: e,
                     cursor: c,
                     steps: k,
-                    broken: false,
                 };
             }
             Next::Broken => {
-                return ListRun {
+                return Progress {
                     engine: e,
                     cursor: c,
                     steps: k,
-                    broken: true,
                 };
             }
         }
     }
-    ListRun {
+    Progress {
         engine: e,
         cursor: c,
         steps: k,
-        broken: false,
     }
+}
+
+// The same, and whether an illegal entry ended them within the budget.
+pub struct ListRun {
+    pub engine: Engine,
+    pub cursor: Cursor,
+    pub steps: u64,
+    pub broken: bool,
 }
 
 // As many steps of a list as the budget allows, up to its end or its first illegal entry.
@@ -118,5 +122,14 @@ pub fn run_list(
             broken: false,
         };
     }
-    run_from(start, extent, cursor, budget, list, display, virt)
+    let r = run_from(start, extent, cursor, budget, list, display, virt);
+    let e = r.engine;
+    let c = r.cursor;
+    let ended = c.ended(e.under_way);
+    ListRun {
+        engine: e,
+        cursor: c,
+        steps: r.steps,
+        broken: (r.steps < budget) & !ended,
+    }
 }

@@ -77,6 +77,12 @@ next-over l c u e =
     let t = chosen l c u Ended e in
     ends-where l c u ∙ ap₂ (λ u es. not u && isEmpty es) (t .0) (t .1)
 
+-- and one whose next entry cannot be taken has not
+pub broken-going : (l : List ℕ) (c : Cursor) (u : Bool) → nextOf l c u ≡ Broken → endedOf c u ≡ false
+broken-going l c u e =
+    let t = chosen l c u Broken e in
+    ap (λ u. not u && leb (endOf (c .span)) (c .next)) (t .resting) ∙ lt-leb (endOf (c .span)) (c .next) (t .more)
+
 pub fetch-takes-the-head : FetchTakesTheHead
 fetch-takes-the-head l c u e h = chosen l c u (Take e) h .head
 

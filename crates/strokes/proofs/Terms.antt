@@ -1,6 +1,6 @@
 -- The error term: at each pixel the coordinate is the nearest, and a step leads to the next pixel's.
 -- Assumes nothing.
-use mathlib.Core.Path.{_≡_, refl, ap}
+use mathlib.Core.Path.{_≡_, refl, ap, _∙_}
 use mathlib.Core.Logic.{⊎-elim, inl, inr}
 use Prim.Native.Nat.{ℕ, zero, suc, _+_, _-_, _*_, _/_, _%_, _≤_, _<_}
 use native.Mathlib.Nat.{add-mul, mul-suc, mul-assoc, one-mul, div-add-mod, mod-lt, mul-le-mul-left}
@@ -137,4 +137,29 @@ module _ (n i a b : ℕ) (some : 0 < n) (slope : distance a b ≤ n) where
         slope = slope;
         grows = omega arith;
         way = inr (record { order = l; up-is = refl; down-is = refl; term = omega (arith, w) });
+      }
+
+-- the same at the first pixel, where E is n a
+module _ (n a b : ℕ) (some : 0 < n) (slope : distance a b ≤ n) where
+  first-exact : exact n 0 a b ≡ n * a
+  first-exact =
+      let whole : n - 0 ≡ n = omega arith in
+      ap (λ k. k * a + 0 * b) whole ∙ omega arith
+
+  pub from-up : a ≤ b → On n 0 a b (record { coordinate = a; error = n - 1; growth = 2 * (b - a); up = 1; down = 0 })
+  from-up l =
+      record {
+        small = omega arith;
+        slope = slope;
+        grows = omega arith;
+        way = inl (record { order = l; up-is = refl; down-is = refl; term = omega (arith, first-exact) });
+      }
+
+  pub from-down : b ≤ a → On n 0 a b (record { coordinate = a; error = n; growth = 2 * (a - b); up = 0; down = 1 })
+  from-down l =
+      record {
+        small = omega arith;
+        slope = slope;
+        grows = omega arith;
+        way = inr (record { order = l; up-is = refl; down-is = refl; term = omega (arith, first-exact) });
       }

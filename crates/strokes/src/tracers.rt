@@ -43,6 +43,30 @@ fn stepper_at(n: usize, i: usize, a: usize, b: usize) -> Stepper
     }
 }
 
+// The same at the first pixel, without a division.
+fn stepper_from(n: usize, a: usize, b: usize) -> Stepper
+    requires { ⌜ Axis n a b ⌝ }
+    ensures { λ r. ⌜ On n 0 a b r ⌝ }
+{
+    if a <= b {
+        Stepper {
+            coordinate: a,
+            error: n - 1,
+            growth: 2 * (b - a),
+            up: 1,
+            down: 0,
+        }
+    } else {
+        Stepper {
+            coordinate: a,
+            error: n,
+            growth: 2 * (a - b),
+            up: 0,
+            down: 1,
+        }
+    }
+}
+
 // Both coordinates of a line's pixel; `full` is twice the line's steps.
 pub(crate) struct Tracer {
     pub(crate) x: Stepper,
@@ -58,6 +82,11 @@ pub(crate) fn tracer_at(from: u32, to: u32, i: usize) -> Tracer
     let a = point_of(from);
     let b = point_of(to);
     let n = line_steps(from, to);
+    if i == 0 {
+        let x = stepper_from(n, a.x, b.x);
+        let y = stepper_from(n, a.y, b.y);
+        return Tracer { x, y, full: 2 * n };
+    }
     let x = stepper_at(n, i, a.x, b.x);
     let y = stepper_at(n, i, a.y, b.y);
     Tracer { x, y, full: 2 * n }

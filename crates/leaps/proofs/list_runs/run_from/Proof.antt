@@ -1,7 +1,7 @@
 -- The loop's invariant is `Going`: k steps are done, and the rest of the run is that from here. A turn is many visits,
 -- or one entry; the measure is what is left of the budget. The next entry's number does not wrap, as the list's end
 -- fits 32 bits (`going-room`).
-use Rattle.leaps.proofs.Running.{Going, going-start, going-visits, going-takes, going-room, going-stops, going-spent}
+use Rattle.leaps.proofs.Running.{Going, going-start, going-visits, going-takes, going-room, going-stops, going-spent, goes-to}
 use Rattle.lists.proofs.Fetches.{chosen}
 use Rattle.lists.specs.declared.cursors.Next.the-variants.{Ended, Visit, Broken}
 use Rattle.commands.specs.Steps.{scene}
@@ -103,7 +103,8 @@ returns : tie.Need-returns Inv-loop μ-loop
 returns c =
     let o = c .before .before in
     let i = o .before in
-    going-stops _ _ _ _ _ _ _ _ (i .loop-test .taken) (i .before .loop .inv) Ended false (sym (o .next-of .ensures) ∙ c .enum-told2 .given .1) (λ _ _. refl)
+    goes-to _ _ _ false _
+    (going-stops _ _ _ _ _ _ _ _ (i .loop-test .taken) (i .before .loop .inv) Ended false (sym (o .next-of .ensures) ∙ c .enum-told2 .given .1) (λ _ _. refl))
 
 enum-told-3 : tie.Need-enum-told-3 Inv-loop μ-loop
 enum-told-3 c = search needs
@@ -118,7 +119,8 @@ returns-2 : tie.Need-returns-2 Inv-loop μ-loop
 returns-2 c =
     let o = c .before .before in
     let i = o .before in
-    going-stops _ _ _ _ _ _ _ _ (i .loop-test .taken) (i .before .loop .inv) Broken true (sym (o .next-of .ensures) ∙ c .enum-told3 .given .1) (λ _ _. refl)
+    goes-to _ _ _ true _
+    (going-stops _ _ _ _ _ _ _ _ (i .loop-test .taken) (i .before .loop .inv) Broken true (sym (o .next-of .ensures) ∙ c .enum-told3 .given .1) (λ _ _. refl))
 
 same-length-5 : tie.Need-same-length-5 Inv-loop μ-loop
 same-length-5 c = c .before .loop .inv .display-long
@@ -127,7 +129,7 @@ same-length-6 : tie.Need-same-length-6 Inv-loop μ-loop
 same-length-6 c = c .before .loop .inv .virt-long
 
 returns-3 : tie.Need-returns-3 Inv-loop μ-loop
-returns-3 c = going-spent _ _ _ _ _ _ _ _ (c .loop-test .left) (c .before .loop .inv)
+returns-3 c = goes-to _ _ _ false _ (going-spent _ _ _ _ _ _ _ _ (c .loop-test .left) (c .before .loop .inv))
 
 pub run-from-spec : {M : Type 1} → statement M
 run-from-spec =
