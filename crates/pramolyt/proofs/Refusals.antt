@@ -3,24 +3,16 @@
 use mathlib.Core.Path.{_≡_, refl, ap, _∙_}
 use mathlib.Core.Bool.{Bool, true, false, cond}
 use mathlib.Core.List.{List}
-use Prim.Native.Nat.{ℕ, zero, suc}
-use borrow.Author.Tests.{ne-eqb}
+use Prim.Native.Nat.{ℕ}
 use lib.ListN.{length}
-use Rattle.slots.specs.Slots.{lentOk, slotOf}
-use Rattle.slots.specs.Calls.{postReport}
-use Rattle.slots.proofs.Grounds.{store-leaves, write-leaves}
-use Rattle.board.specs.Record.{wellFormed}
-use Rattle.board.specs.Calls.{Reply, postedOf, postCall, Written, storeCall, writeCall}
-use Rattle.board.specs.Steps.{Machine, machine, nextOn}
-use Rattle.board.specs.Runs.{Outcome, ended, byNext, runOf, runCall}
+use Rattle.board.specs.Calls.{Written, storeCall, writeCall}
+use Rattle.board.specs.Steps.{machine}
 use Rattle.board.specs.declared.record.Board.{Board}
-use Rattle.lists.specs.declared.cursors.Next.{Next}
-use Rattle.lists.specs.declared.cursors.Next.the-variants.{Ended, Visit, Take, Broken}
+use Rattle.board.proofs.Refused.{post-given, Stays, store-stays, write-stays, run-halts}
 use Rattle.pramolyt.specs.Image.{words, wordsOf, boardOf, flagsOk}
 use Rattle.pramolyt.specs.Exports.{ofImage, Posted, postImage, Changed, changed, changedBy, storeImage, writeImage, Ran, runImage, RefusedPost, RefusedStore, RefusedWrite, RefusedRun}
 use Rattle.pramolyt.proofs.RoundTrips.{encodes-decoded}
 
--- ---- of an image
 judged : {A : Type 0} (P : A → Type 0) (w : List ℕ) {done stays : A} → (flagsOk w ≡ true → P done) → P stays → P (ofImage w done stays)
 judged P w {done} {stays} p q = for (flagsOk w) refl
   where

@@ -66,25 +66,21 @@ slots-hold l b g = subst (SlotsHold b) (spans (b .active .taken) (b .pending .ta
     spans false true = refl
     spans false false = refl
 
-    n : ℕ
-    n = b .sizes .entries
-
     hold : (t u : Bool) → b .active .taken ≡ t → b .pending .taken ≡ u
         → SlotsHold b (cond t (b .active .cursor .span ∷ []) [] ++ cond u (b .pending .span ∷ []) [])
-    unfolding n
     hold true true e f =
-        record { active-front = slot-with (slotOf (b .active)) n e; pending-second = slot-with (b .pending) n f; no-third = refl }
+        record { active-front = slot-with (slotOf (b .active)) (b .sizes .entries) e; pending-second = slot-with (b .pending) (b .sizes .entries) f; no-third = refl }
     hold true false e f =
         record {
-          active-front = slot-with (slotOf (b .active)) n e;
-          pending-second = slot-empty (b .pending) n (g .pending) f;
+          active-front = slot-with (slotOf (b .active)) (b .sizes .entries) e;
+          pending-second = slot-empty (b .pending) (b .sizes .entries) (g .pending) f;
           no-third = refl;
         }
     hold false true e f = absurd (false≢true (sym (none-waits b g e) ∙ f))
     hold false false e f =
         record {
-          active-front = active-empty (b .active) n (b .engine .«under_way») (g .active) e;
-          pending-second = slot-empty (b .pending) n (g .pending) f;
+          active-front = active-empty (b .active) (b .sizes .entries) (b .engine .«under_way») (g .active) e;
+          pending-second = slot-empty (b .pending) (b .sizes .entries) (g .pending) f;
           no-third = refl;
         }
 

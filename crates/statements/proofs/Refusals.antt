@@ -66,7 +66,7 @@ empty-store w first well long fits =
     let z = b .sizes in
     let whole : (eqb (length l) (5 * z .entries) && true) ≡ true = both (eq-eqb (length l) (5 * z .entries) long) refl in
     let free : (holdsAny (slotOf (b .active)) first 0 || holdsAny (b .pending) first 0) ≡ false =
-        ap₂ _||_ (none-touched (slotOf (b .active)) first) (none-touched (b .pending) first) in
+    ap₂ _||_ (none-touched (slotOf (b .active)) first) (none-touched (b .pending) first) in
     let done = store-done z (slotOf (b .active)) (b .pending) l first [] whole (omega arith) free l (sym (put-none l (5 * first))) in
     ap (storedOf w) (sym (store-by l first [] b well (leaves 0 l) done))
 
@@ -79,14 +79,10 @@ module _ (w : World) (well : wellFormed (w .board) ≡ true) (number offset answ
   unfolding called Answers
   by-buffer d v = go (eqb number 0)
     where
-      b : Board
-      b = w .board
-
       go : (t : Bool) → cond t (toDisplay w (writeCall number offset [] (w .display) (w .board))) (toVirtual w (writeCall number offset [] (w .virt) (w .board)))
           ≡ unchanged answer w
-      unfolding b
-      go true = ap (toDisplay w) (sym (write-by number offset [] (w .display) b well (leaves answer (w .display)) d))
-      go false = ap (toVirtual w) (sym (write-by number offset [] (w .virt) b well (leaves answer (w .virt)) v))
+      go true = ap (toDisplay w) (sym (write-by number offset [] (w .display) (w .board) well (leaves answer (w .display)) d))
+      go false = ap (toVirtual w) (sym (write-by number offset [] (w .virt) (w .board) well (leaves answer (w .virt)) v))
 
 pub empty-writes : EmptyWrites
 unfolding Answers
@@ -96,16 +92,16 @@ empty-writes w number offset well display-long virt-long named fits =
     let a = slotOf (b .active) in
     let p = b .pending in
     let right : (buffer : List ℕ) → length buffer ≡ areaOf z → (leb number 1 && eqb (length buffer) (areaOf z)) ≡ true =
-        λ buffer long. both (le-leb number 1 named) (eq-eqb (length buffer) (areaOf z) long) in
+    λ buffer long. both (le-leb number 1 named) (eq-eqb (length buffer) (areaOf z) long) in
     record {
       idle = λ t.
           let free : (a .taken || p .taken) ≡ false = ap₂ _||_ t (none-waits b (good-of b well) t) in
           let done : (buffer : List ℕ) → length buffer ≡ areaOf z → leaves 0 buffer ≡ writeReport z a p number offset [] buffer =
-              λ buffer long. write-done z a p number offset [] buffer (right buffer long) (omega arith) free buffer (sym (put-none buffer offset)) in
+          λ buffer long. write-done z a p number offset [] buffer (right buffer long) (omega arith) free buffer (sym (put-none buffer offset)) in
           by-buffer w well number offset 0 (done (w .display) display-long) (done (w .virt) virt-long);
       taken = λ t.
           let busy : (a .taken || p .taken) ≡ true = ap (λ t. t || p .taken) t in
           let still : (buffer : List ℕ) → length buffer ≡ areaOf z → leaves 7 buffer ≡ writeReport z a p number offset [] buffer =
-              λ buffer long. write-busy z a p number offset [] buffer (right buffer long) (omega arith) busy in
+          λ buffer long. write-busy z a p number offset [] buffer (right buffer long) (omega arith) busy in
           by-buffer w well number offset 7 (still (w .display) display-long) (still (w .virt) virt-long);
     }
