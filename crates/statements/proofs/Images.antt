@@ -14,7 +14,7 @@ use Rattle.slots.specs.Slots.{sizesOk}
 use Rattle.slots.proofs.Grounds.{NumberAlone}
 use Rattle.board.specs.Steps.{machine}
 use Rattle.board.specs.Runs.{runCall}
-use Rattle.board.specs.Calls.{answered, freshBoard, sizes, makeCall, postCall, Written, storeCall, writeCall}
+use Rattle.board.specs.Calls.{Reply, answered, freshBoard, sizes, makeCall, postCall, Written, storeCall, writeCall}
 use Rattle.board.specs.declared.record.Board.{Board}
 use Rattle.board.proofs.Replies.{post-no-steps, store-no-more, write-no-more, run-no-place}
 use Rattle.pramolyt.specs.Image.{wordsOf, boardOf}
@@ -104,7 +104,7 @@ made-fresh : (width height entries : ℕ) → makeImage width height entries .nu
 unfolding makeImage makeCall
 made-fresh width height entries h =
     let z = sizes width height entries in
-    let reply = λ (t : Bool). cond t (answered 0 0 (freshBoard z)) (answered 2 0 (freshBoard (sizes 1 1 1))) in
+    let reply : Bool → Reply = λ t. cond t (answered 0 0 (freshBoard z)) (answered 2 0 (freshBoard (sizes 1 1 1))) in
     by-cases (sizesOk z) (λ t. (t, ap (λ t. wordsOf (reply t .board)) t))
     (λ t. absurd (two (ap (λ t. reply t .report .number) t) h))
   where

@@ -63,11 +63,11 @@ Reports extent (run budget) c p =
 -- The claim after each call of a sequence, of what the calls answered.
 unfoldable pub Throughout : Extent → List Call → List Called → Paper → Type 0
 Throughout extent [] [] p = Unit {0}
-Throughout extent [] (a ∷ as) p = ⊥
+Throughout extent [] (a ∷ others) p = ⊥
 Throughout extent (c ∷ cs) [] p = ⊥
-Throughout extent (c ∷ cs) (a ∷ as) p =
+Throughout extent (c ∷ cs) (a ∷ others) p =
     let q = fed extent c (eqb (a .report .number) 0) (a .report .steps) p in
-    Equal a q × Reports extent c a p × Throughout extent cs as q
+    Equal a q × Reports extent c a p × Throughout extent cs others q
 
 abbrev pub Demand3 : Type 0
 Demand3 =
