@@ -20,6 +20,20 @@
 #include <stddef.h>
 #include <stdint.h>
 
+#define PRAMOLYT_VERSION_MAJOR 0
+#define PRAMOLYT_VERSION_MINOR 4
+#define PRAMOLYT_VERSION_PATCH 0
+#define PRAMOLYT_VERSION "0.4.0"
+
+/* The edition of the record and of the calls' arguments. The archive's symbols carry it, so that a program compiled with a
+ * header of another edition does not link. In C and C++ one writes the names without it. */
+#define PRAMOLYT_EDITION 1
+#define pramolyt_make pramolyt_make_r1
+#define pramolyt_post pramolyt_post_r1
+#define pramolyt_store pramolyt_store_r1
+#define pramolyt_window_write pramolyt_window_write_r1
+#define pramolyt_run pramolyt_run_r1
+
 #ifdef __cplusplus
 extern "C" {
 #endif
