@@ -1,5 +1,5 @@
-# The C library: `make` proves and builds it, `make check` runs every test, `make install` installs what `make` built:
-# the headers, the archive, pramolyt.pc for pkg-config and the manual page.
+# The C library, by GNU make: `make` proves and builds it, `make check` runs every test, and `make install` installs the
+# headers, the archive that `make` built, pramolyt.pc for pkg-config and the manual page. DESTDIR is put before each folder.
 PREFIX ?= /usr/local
 includedir ?= $(PREFIX)/include
 libdir ?= $(PREFIX)/lib
