@@ -1,4 +1,5 @@
-/* The board engine for C and C++: libpramolyt.a, x86-64, System V ABI. C99 or later, C++11 or later.
+/* The board engine for C and C++: libpramolyt.a, x86-64, System V ABI. C99 or later, C++11 or later. What the entries of a
+ * list hold stands in pramolyt_list.h.
  *
  * Every function takes every number, every record and memories of every length, and has one outcome for each of them; no
  * call stops, allocates or keeps a pointer. The library has no state of its own, so separate boards may run on separate
