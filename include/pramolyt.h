@@ -1,7 +1,9 @@
-/* The board engine for C and C++: libpramolyt.a, x86-64, System V ABI.
+/* The board engine for C and C++: libpramolyt.a, x86-64, System V ABI. C99 or later, C++11 or later. What the entries of a
+ * list hold stands in pramolyt_list.h.
  *
  * Every function takes every number, every record and memories of every length, and has one outcome for each of them; no
- * call stops, allocates or keeps a pointer. What only the caller can see to:
+ * call stops, allocates or keeps a pointer. The library has no state of its own, so separate boards may run on separate
+ * threads at once. From outside it needs memmove and memset alone. What only the caller can see to:
  *  - board, place and steps are not null, are aligned, and point to one value each;
  *  - a length is what its pointer really has behind it; with a length of 0 any pointer will do, NULL too;
  *  - nothing that one pointer of a call lends for writing overlaps what another pointer of that call lends, and no other
@@ -20,6 +22,20 @@
 #include <stddef.h>
 #include <stdint.h>
 
+#define PRAMOLYT_VERSION_MAJOR 0
+#define PRAMOLYT_VERSION_MINOR 4
+#define PRAMOLYT_VERSION_PATCH 0
+#define PRAMOLYT_VERSION "0.4.0"
+
+/* The edition of the record and of the calls' arguments. The archive's symbols carry it, so that a program compiled with a
+ * header of another edition does not link. In C and C++ one writes the names without it. */
+#define PRAMOLYT_EDITION 1
+#define pramolyt_make pramolyt_make_r1
+#define pramolyt_post pramolyt_post_r1
+#define pramolyt_store pramolyt_store_r1
+#define pramolyt_window_write pramolyt_window_write_r1
+#define pramolyt_run pramolyt_run_r1
+
 #ifdef __cplusplus
 extern "C" {
 #endif
@@ -30,8 +46,7 @@ enum {
     PRAMOLYT_DONE = 0,
     PRAMOLYT_MALFORMED = 1,      /* the record fails the test of a board record: it was never made, or was changed between
                                     calls. The test looks at the record alone; not every change is seen */
-    PRAMOLYT_WRONG_SIZE = 2,     /* sizes outside the limits, a memory of another size than the record says, a buffer
-                                    number above 1, or stored bytes that are no multiple of 5 */
+    PRAMOLYT_WRONG_SIZE = 2,     /* a size or a length is wrong, or a buffer number; each call says which */
     PRAMOLYT_NO_ENTRIES = 3,     /* a list of no entries */
     PRAMOLYT_PAST_THE_END = 4,   /* a span passes the end of its memory */
     PRAMOLYT_SLOTS_FULL = 5,     /* both slots are taken */
@@ -74,33 +89,75 @@ typedef struct pramolyt_board {
     uint32_t last; /* the last point: x in the high half, y in the low half, each two's complement */
 } pramolyt_board;
 
-/* A fresh board into *board, whatever stood there: 0. With sizes outside the limits 2, and *board is the fresh 1 by 1
- * board with 1 entry. The caller lends each call its memories: list memory of 5 * entries bytes, and two buffers, display
- * and virtual, of width * height bytes each. */
+/* A fresh board into *board, whatever stood there: 0 or 2. It is 2 where width or height is not 1 to 2048, or entries not
+ * 1 to 4096; *board is then the fresh 1 by 1 board with 1 entry. The caller lends each call its memories: list memory of
+ * 5 * entries bytes, and two buffers, display and virtual, of width * height bytes each. */
 uint32_t pramolyt_make(pramolyt_board *board, size_t width, size_t height, size_t entries);
 
-/* Posts the list of `count` entries from entry `start` on: 0, 1, 2, 3, 4, 5 or 6. *place is the first illegal entry,
- * counted over the whole list memory, where the answer is 6, else 0. */
+/* Posts the list of `count` entries from entry `start` on: 0, 1, 2, 3, 4, 5 or 6. It is 2 where list_len is not
+ * 5 * entries. *place is the first illegal entry, counted over the whole list memory, where the answer is 6, else 0. */
 uint32_t pramolyt_post(pramolyt_board *board, uint64_t *place, const uint8_t *list, size_t list_len, size_t start,
                        size_t count);
 
-/* Stores bytes into list memory from entry `first` on: 0, 1, 2, 4 or 8. */
+/* Stores bytes into list memory from entry `first` on: 0, 1, 2, 4 or 8. It is 2 where list_len is not 5 * entries, or
+ * bytes_len no multiple of 5. */
 uint32_t pramolyt_store(pramolyt_board *board, uint8_t *list, size_t list_len, size_t first, const uint8_t *bytes,
                         size_t bytes_len);
 
 /* Writes bytes from `offset` on into buffer `number`, 0 for display and 1 for virtual, which is the one that is lent: 0,
- * 1, 2, 4 or 7. */
+ * 1, 2, 4 or 7. It is 2 where number is above 1, or buffer_len is not width * height. */
 uint32_t pramolyt_window_write(pramolyt_board *board, size_t number, size_t offset, const uint8_t *bytes,
                                size_t bytes_len, uint8_t *buffer, size_t buffer_len);
 
-/* Runs the posted lists for at most `budget` steps (an entry fetched or a pixel visited): 0, 1, 2 or 9. *steps is the steps
- * done; with 0 it is the lesser of the budget and the steps left in both lists. */
+/* Runs the posted lists for at most `budget` steps (an entry fetched or a pixel visited): 0, 1, 2 or 9. It is 2 where
+ * list_len is not 5 * entries, or display_len or virt_len not width * height. *steps is the steps done; with 0 it is the
+ * lesser of the budget and the steps left in both lists.
+ *
+ * 9 means that list memory or the record is not as the last call left it. board->next is the illegal entry, its list stays
+ * active, and a further run of a step or more answers 9 again. To go on, write a legal entry over its 5 bytes, those from
+ * list + 5 * board->next on, and run again (pramolyt_store there is refused with 8); or make the board anew, which empties
+ * its slots, sets its registers to their start and leaves the three memories alone. */
 uint32_t pramolyt_run(pramolyt_board *board, uint64_t *steps, uint64_t budget, const uint8_t *list, size_t list_len,
                       uint8_t *display, size_t display_len, uint8_t *virt, size_t virt_len);
 
 #ifdef __cplusplus
 }
 #endif
+
+/* 1 where no list is left to run, else 0. */
+static inline int pramolyt_idle(const pramolyt_board *board)
+{
+    return board->active_taken == 0;
+}
+
+/* An answer in words, for people. */
+static inline const char *pramolyt_answer_text(uint32_t answer)
+{
+    switch (answer) {
+    case PRAMOLYT_DONE:
+        return "done";
+    case PRAMOLYT_MALFORMED:
+        return "the board record is damaged or was never made; make the board anew";
+    case PRAMOLYT_WRONG_SIZE:
+        return "a size is wrong: the board's, a memory's, the buffer number, or bytes that are no whole entries";
+    case PRAMOLYT_NO_ENTRIES:
+        return "the list has no entries";
+    case PRAMOLYT_PAST_THE_END:
+        return "the span passes the end of its memory";
+    case PRAMOLYT_SLOTS_FULL:
+        return "two lists are waiting already; run one to its end first";
+    case PRAMOLYT_ILLEGAL_ENTRY:
+        return "an entry is illegal; the list was not posted";
+    case PRAMOLYT_BUSY:
+        return "a list is still to be drawn; run it to its end before writing a buffer";
+    case PRAMOLYT_ENTRY_HELD:
+        return "a list that is still to be drawn has one of these entries";
+    case PRAMOLYT_ILLEGAL_FETCH:
+        return "an illegal entry stopped the run; list memory or the record was changed since the post";
+    default:
+        return "no answer of this library";
+    }
+}
 
 /* The library reads the record as so many words, in this order. */
 #define PRAMOLYT_WORDS 28

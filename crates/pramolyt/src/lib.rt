@@ -1,5 +1,6 @@
 // The exported C functions, as include/pramolyt.h declares them. The board record is an image of 32-bit words, which
-// the caller keeps; each call answers document 01's number (What the engine has, and What the host hears).
+// the caller keeps; each call answers document 01's number (What the engine has, and What the host hears). Each name ends in
+// the edition of the record and of the arguments: a change of either changes the names, here and in the header.
 ghost use mathlib.Core.Path.{_≡_};
 ghost use Rattle.pramolyt.specs.Exports.{made, makeImage, posted, postImage, changed, storeImage, writeImage, ran, runImage};
 
@@ -12,7 +13,7 @@ use image::encode;
 use image::flags_ok;
 
 #[no_mangle]
-pub extern "C" fn pramolyt_make(
+pub extern "C" fn pramolyt_make_r1(
     board: &mut [u32; WORDS],
     width: usize,
     height: usize,
@@ -27,7 +28,7 @@ pub extern "C" fn pramolyt_make(
 }
 
 #[no_mangle]
-pub extern "C" fn pramolyt_post(
+pub extern "C" fn pramolyt_post_r1(
     board: &mut [u32; WORDS],
     place: &mut u64,
     list: &[u8],
@@ -50,7 +51,7 @@ pub extern "C" fn pramolyt_post(
 }
 
 #[no_mangle]
-pub extern "C" fn pramolyt_store(
+pub extern "C" fn pramolyt_store_r1(
     board: &mut [u32; WORDS],
     list: &mut [u8],
     first: usize,
@@ -70,7 +71,7 @@ pub extern "C" fn pramolyt_store(
 }
 
 #[no_mangle]
-pub extern "C" fn pramolyt_window_write(
+pub extern "C" fn pramolyt_window_write_r1(
     board: &mut [u32; WORDS],
     number: usize,
     offset: usize,
@@ -91,7 +92,7 @@ pub extern "C" fn pramolyt_window_write(
 }
 
 #[no_mangle]
-pub extern "C" fn pramolyt_run(
+pub extern "C" fn pramolyt_run_r1(
     board: &mut [u32; WORDS],
     steps: &mut u64,
     budget: u64,

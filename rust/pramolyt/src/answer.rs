@@ -1,5 +1,5 @@
-use std::error::Error;
-use std::fmt;
+use core::error::Error;
+use core::fmt;
 
 /// What a call answers. Where several grounds of refusal hold, it is the one with the lowest number.
 ///
@@ -12,10 +12,9 @@ pub enum Answer {
         /// The steps of a run; 0 for any other call.
         steps: u64,
     },
-    /// 1: the board record is none that calls can lead to.
+    /// 1: the record fails the test of a board record. The test looks at the record alone; not every change is seen.
     Malformed,
-    /// 2: sizes outside the limits, a memory of another size than the board's, a buffer number above 1, or stored bytes
-    /// that are no whole entries.
+    /// 2: a size or a length is wrong, or a buffer number; each call says which.
     WrongSize,
     /// 3: a list of no entries.
     NoEntries,
@@ -103,7 +102,10 @@ impl fmt::Display for Answer {
         match self {
             Answer::Done { steps: 0 } => write!(f, "done"),
             Answer::Done { steps } => write!(f, "done, {steps} steps"),
-            Answer::Malformed => write!(f, "the board record is damaged; make the board anew"),
+            Answer::Malformed => write!(
+                f,
+                "the board record is damaged or was never made; make the board anew"
+            ),
             Answer::WrongSize => write!(
                 f,
                 "a size is wrong: the board's, a memory's, the buffer number, or bytes that are no whole entries"
@@ -127,7 +129,7 @@ impl fmt::Display for Answer {
             Answer::IllegalFetch { steps } => {
                 write!(
                     f,
-                    "an illegal entry stopped the run after {steps} steps; the list was changed since its post"
+                    "an illegal entry stopped the run after {steps} steps; list memory or the record was changed since the post"
                 )
             }
         }

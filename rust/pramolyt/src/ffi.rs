@@ -1,10 +1,13 @@
-//! The functions of include/pramolyt.h.
+//! The functions of include/pramolyt.h. Their symbols end in the edition of the record and of the arguments, so that an
+//! archive of another edition does not link.
 
 use crate::Board;
 
 unsafe extern "C" {
+    #[link_name = "pramolyt_make_r1"]
     pub fn pramolyt_make(board: *mut Board, width: usize, height: usize, entries: usize) -> u32;
 
+    #[link_name = "pramolyt_post_r1"]
     pub fn pramolyt_post(
         board: *mut Board,
         place: *mut u64,
@@ -14,6 +17,7 @@ unsafe extern "C" {
         count: usize,
     ) -> u32;
 
+    #[link_name = "pramolyt_store_r1"]
     pub fn pramolyt_store(
         board: *mut Board,
         list: *mut u8,
@@ -23,6 +27,7 @@ unsafe extern "C" {
         bytes_len: usize,
     ) -> u32;
 
+    #[link_name = "pramolyt_window_write_r1"]
     pub fn pramolyt_window_write(
         board: *mut Board,
         number: usize,
@@ -33,6 +38,7 @@ unsafe extern "C" {
         buffer_len: usize,
     ) -> u32;
 
+    #[link_name = "pramolyt_run_r1"]
     pub fn pramolyt_run(
         board: *mut Board,
         steps: *mut u64,

@@ -20,10 +20,16 @@
 //! assert_eq!(display[8..16], [0, 0, 7, 7, 0, 0, 0, 0]);
 //! # Ok::<(), Answer>(())
 //! ```
+//!
+//! The crate is `no_std`. The library has no state of its own: separate boards may run on separate threads at once.
+#![no_std]
 #![deny(missing_docs)]
 
 #[cfg(not(all(target_arch = "x86_64", target_pointer_width = "64")))]
 compile_error!("libpramolyt.a is for x86-64");
+
+#[cfg(test)]
+extern crate std;
 
 mod answer;
 mod ffi;
@@ -59,8 +65,8 @@ impl Board {
         (Answer::from_report(number, 0, 0), board)
     }
 
-    /// The board with these words, as [`Board::words`] gave them. Any words will do: a record that no calls lead to is
-    /// refused by each call as [`Answer::Malformed`].
+    /// The board with these words, as [`Board::words`] gave them. Any words will do: each call refuses words that fail the
+    /// test of a board record as [`Answer::Malformed`]. Not every change is seen.
     pub fn from_words(words: [u32; WORDS]) -> Board {
         Board { words }
     }
@@ -90,7 +96,13 @@ impl Board {
         self.words[3] == 0
     }
 
-    /// Posts the list of `count` entries from entry `start` on. Two lists can wait at a time.
+    /// The active list's next entry, counted over the whole list memory; after [`Answer::IllegalFetch`] the illegal one.
+    pub fn next_entry(&self) -> usize {
+        self.words[9] as usize
+    }
+
+    /// Posts the list of `count` entries from entry `start` on. Two lists can wait at a time. The answer is
+    /// [`Answer::WrongSize`] where `list` has not 5 bytes an entry of the board.
     pub fn post(&mut self, list: &[u8], start: usize, count: usize) -> Answer {
         let mut place = u64::MAX;
         // SAFETY: pointers and lengths are those of live, borrowed memory; board, place and list do not overlap.
@@ -100,7 +112,8 @@ impl Board {
         Answer::from_report(number, place, 0)
     }
 
-    /// Stores bytes, 5 an entry, into list memory from entry `first` on.
+    /// Stores bytes, 5 an entry, into list memory from entry `first` on. The answer is [`Answer::WrongSize`] where `list` has
+    /// not 5 bytes an entry of the board, or the length of `bytes` is no multiple of 5.
     pub fn store(&mut self, list: &mut [u8], first: usize, bytes: &[u8]) -> Answer {
         // SAFETY: as in post; list is borrowed alone, so bytes do not overlap it.
         let number = unsafe {
@@ -116,7 +129,8 @@ impl Board {
         Answer::from_report(number, 0, 0)
     }
 
-    /// Writes bytes into a buffer from `offset` on. `number` is [`DISPLAY`] or [`VIRTUAL`], and `buffer` that buffer.
+    /// Writes bytes into a buffer from `offset` on. `number` is [`DISPLAY`] or [`VIRTUAL`], and `buffer` that buffer. The
+    /// answer is [`Answer::WrongSize`] with another number, or where `buffer` has not a byte for each pixel.
     pub fn window_write(
         &mut self,
         number: usize,
@@ -139,7 +153,12 @@ impl Board {
         Answer::from_report(number, 0, 0)
     }
 
-    /// Draws the posted lists for at most `budget` steps; a step is an entry fetched or a pixel visited.
+    /// Draws the posted lists for at most `budget` steps; a step is an entry fetched or a pixel visited. The answer is
+    /// [`Answer::WrongSize`] where `list` has not 5 bytes an entry of the board, or a buffer not a byte for each pixel.
+    ///
+    /// [`Answer::IllegalFetch`] means that list memory or the record is not as the last call left it. The list stays
+    /// posted, and a further run stops there again. To go on, write a legal entry over that one, [`Board::next_entry`],
+    /// in list memory ([`Board::store`] there is refused) and run again, or make the board anew.
     pub fn run(&mut self, budget: u64, list: &[u8], display: &mut [u8], virt: &mut [u8]) -> Answer {
         let mut steps = u64::MAX;
         // SAFETY: as in store; both buffers are borrowed alone.

@@ -1,3 +1,5 @@
+use std::string::ToString;
+
 use crate::{Answer, Board, DISPLAY, VIRTUAL, WORDS};
 
 const DONE: Answer = Answer::Done { steps: 0 };
@@ -149,12 +151,14 @@ fn a_window_write_needs_an_idle_board() {
 }
 
 #[test]
-fn a_list_changed_since_its_post_stops_the_run() {
+fn a_list_changed_since_its_post_stops_the_run_until_it_is_mended() {
     let mut bench = Bench::new();
     assert_eq!(bench.post(0, 4), DONE);
     bench.list[10..15].copy_from_slice(&ILLEGAL);
     assert_eq!(bench.run(2), Answer::Done { steps: 2 });
     assert_eq!(bench.run(100), Answer::IllegalFetch { steps: 0 });
+    assert_eq!(bench.board.next_entry(), 2);
+    assert_eq!(bench.store(2, &LINE[10..15]), Answer::EntryHeld);
     bench.list[10..15].copy_from_slice(&LINE[10..15]);
     assert_eq!(bench.run(100), Answer::Done { steps: 7 });
 }

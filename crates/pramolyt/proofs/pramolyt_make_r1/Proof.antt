@@ -1,8 +1,8 @@
 -- The image is that of the record that `make` returns, done or refused (`make-done`).
 use borrow.Author.Needs.{needs}
 use Rattle.pramolyt.proofs.Calls.{make-done}
-use Rattle.pramolyt.proofs.pramolyt_make.Statement.{statement}
-use Rattle.pramolyt.proofs.pramolyt_make.Tie as tie
+use Rattle.pramolyt.proofs.pramolyt_make_r1.Statement.{statement}
+use Rattle.pramolyt.proofs.pramolyt_make_r1.Tie as tie
 
 make-requires : tie.Need-make-requires
 make-requires c κs = search needs
@@ -18,5 +18,5 @@ returns c =
     let answer = c .before .before .make in
     make-done (answer .result) _ (c .before .encode .ensures) _ (c .number .ensures) _ _ _ (answer .ensures)
 
-pub pramolyt-make-spec : {M : Type 1} → statement M
-pramolyt-make-spec = tie.close (tie.spec make-requires encode-requires number-requires returns)
+pub pramolyt-make-r1-spec : {M : Type 1} → statement M
+pramolyt-make-r1-spec = tie.close (tie.spec make-requires encode-requires number-requires returns)

@@ -2,8 +2,8 @@
 -- and the image after it is the record's (`write-done`).
 use borrow.Author.Needs.{needs}
 use Rattle.pramolyt.proofs.Calls.{write-refused, write-done}
-use Rattle.pramolyt.proofs.pramolyt_window_write.Statement.{statement}
-use Rattle.pramolyt.proofs.pramolyt_window_write.Tie as tie
+use Rattle.pramolyt.proofs.pramolyt_window_write_r1.Statement.{statement}
+use Rattle.pramolyt.proofs.pramolyt_window_write_r1.Tie as tie
 
 flags-ok-requires : tie.Need-flags-ok-requires
 flags-ok-requires c κs = search needs
@@ -34,8 +34,8 @@ returns-2 c =
     let flags = decoded .before in
     write-done (answer .window-write .result) _ (encoded .encode .ensures) _ (c .number .ensures) _ _ (flags .before .flags-ok .ensures) (flags .if1 .left) _ (decoded .decode .ensures) _ _ _ _ _ (answer .window-write .ensures)
 
-pub pramolyt-window-write-spec : {M : Type 1} → statement M
-pramolyt-window-write-spec =
+pub pramolyt-window-write-r1-spec : {M : Type 1} → statement M
+pramolyt-window-write-r1-spec =
     tie.close
     (tie.spec
     flags-ok-requires

@@ -2,8 +2,8 @@
 -- the image after it is the record's (`run-done`).
 use borrow.Author.Needs.{needs}
 use Rattle.pramolyt.proofs.Calls.{run-refused, run-done}
-use Rattle.pramolyt.proofs.pramolyt_run.Statement.{statement}
-use Rattle.pramolyt.proofs.pramolyt_run.Tie as tie
+use Rattle.pramolyt.proofs.pramolyt_run_r1.Statement.{statement}
+use Rattle.pramolyt.proofs.pramolyt_run_r1.Tie as tie
 
 flags-ok-requires : tie.Need-flags-ok-requires
 flags-ok-requires c κs = search needs
@@ -40,8 +40,8 @@ returns-2 c =
     let flags = decoded .before in
     run-done (answer .run .result) _ (encoded .encode .ensures) _ (c .number .ensures) _ _ (flags .before .flags-ok .ensures) (flags .if1 .left) _ (decoded .decode .ensures) _ _ _ _ _ _ (answer .run .ensures) _ (c .before .steps .ensures)
 
-pub pramolyt-run-spec : {M : Type 1} → statement M
-pramolyt-run-spec =
+pub pramolyt-run-r1-spec : {M : Type 1} → statement M
+pramolyt-run-r1-spec =
     tie.close
     (tie.spec
     flags-ok-requires

@@ -2,8 +2,8 @@
 -- and the image after it is the record's (`store-done`).
 use borrow.Author.Needs.{needs}
 use Rattle.pramolyt.proofs.Calls.{store-refused, store-done}
-use Rattle.pramolyt.proofs.pramolyt_store.Statement.{statement}
-use Rattle.pramolyt.proofs.pramolyt_store.Tie as tie
+use Rattle.pramolyt.proofs.pramolyt_store_r1.Statement.{statement}
+use Rattle.pramolyt.proofs.pramolyt_store_r1.Tie as tie
 
 flags-ok-requires : tie.Need-flags-ok-requires
 flags-ok-requires c κs = search needs
@@ -34,8 +34,8 @@ returns-2 c =
     let flags = decoded .before in
     store-done (answer .store .result) _ (encoded .encode .ensures) _ (c .number .ensures) _ _ (flags .before .flags-ok .ensures) (flags .if1 .left) _ (decoded .decode .ensures) _ _ _ _ (answer .store .ensures)
 
-pub pramolyt-store-spec : {M : Type 1} → statement M
-pramolyt-store-spec =
+pub pramolyt-store-r1-spec : {M : Type 1} → statement M
+pramolyt-store-r1-spec =
     tie.close
     (tie.spec
     flags-ok-requires

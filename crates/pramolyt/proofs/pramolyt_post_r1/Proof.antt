@@ -2,8 +2,8 @@
 -- the image after it is the record's (`post-done`).
 use borrow.Author.Needs.{needs}
 use Rattle.pramolyt.proofs.Calls.{post-refused, post-done}
-use Rattle.pramolyt.proofs.pramolyt_post.Statement.{statement}
-use Rattle.pramolyt.proofs.pramolyt_post.Tie as tie
+use Rattle.pramolyt.proofs.pramolyt_post_r1.Statement.{statement}
+use Rattle.pramolyt.proofs.pramolyt_post_r1.Tie as tie
 
 flags-ok-requires : tie.Need-flags-ok-requires
 flags-ok-requires c κs = search needs
@@ -34,8 +34,8 @@ returns-2 c =
     let flags = decoded .before in
     post-done (answer .post .result) _ (encoded .encode .ensures) _ (c .number .ensures) _ _ (flags .before .flags-ok .ensures) (flags .if1 .left) _ (decoded .decode .ensures) _ _ _ (answer .post .ensures) _ (c .before .place .ensures)
 
-pub pramolyt-post-spec : {M : Type 1} → statement M
-pramolyt-post-spec =
+pub pramolyt-post-r1-spec : {M : Type 1} → statement M
+pramolyt-post-r1-spec =
     tie.close
     (tie.spec
     flags-ok-requires
