@@ -134,8 +134,7 @@ static inline uint32_t pramolyt_command(unsigned opcode, unsigned raster_code, u
  * repeat below the scale. */
 static inline uint32_t pramolyt_pattern(unsigned length, unsigned scale, unsigned place, unsigned repeat)
 {
-    if (length < 1 || length > PRAMOLYT_MAX_PATTERN_LENGTH || scale < 1 || scale > PRAMOLYT_MAX_PATTERN_SCALE
-        || place >= length || repeat >= scale)
+    if (length > PRAMOLYT_MAX_PATTERN_LENGTH || place >= length || scale > PRAMOLYT_MAX_PATTERN_SCALE || repeat >= scale)
         return PRAMOLYT_ILLEGAL_WORD;
     return (uint32_t)(length % 32 | (scale - 1) << 5 | place << 8 | repeat << 13);
 }
