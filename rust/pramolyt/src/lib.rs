@@ -27,6 +27,7 @@ compile_error!("libpramolyt.a is for x86-64");
 
 mod answer;
 mod ffi;
+pub mod list;
 #[cfg(test)]
 mod tests;
 
