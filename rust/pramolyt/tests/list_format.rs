@@ -877,6 +877,36 @@ fn the_page_has_the_bits_of_a_pattern() {
     assert_eq!(drawn.join(" "), bits);
 }
 
+/// The entries of the page's list, and what it says of each.
+fn whole_list() -> [(Entry, &'static str); 10] {
+    let bar = command(Opcode::Bitblt, RasterCode::Copy, Flags::SOLID);
+    let dashes = command(Opcode::Line, RasterCode::Copy, Flags::TRNSP | Flags::STPL);
+    [
+        (Entry::new(Register::Fore, 1), "1"),
+        (Entry::new(Register::Cmd, bar), "BITBLT, code 3, SOLID"),
+        (Entry::new(Register::Xy2, size(12, 3)), "12 by 3"),
+        (
+            Entry::new(Register::Xy1, point(2, 1)),
+            "(2, 1): the bar, 36 pixels",
+        ),
+        (Entry::new(Register::Fore, 2), "2"),
+        (Entry::new(Register::Lpat, 0b101), "bits 1 0 1"),
+        (
+            Entry::new(Register::Pctrl, pattern(3, 2, 0, 0)),
+            "length 3, scale 2",
+        ),
+        (
+            Entry::new(Register::Cmd, dashes),
+            "LINE, code 3, TRNSP and STPL",
+        ),
+        (Entry::new(Register::Xy0, point(-2, 0)), "(-2, 0)"),
+        (
+            Entry::new(Register::Xy1, point(15, 5)),
+            "(15, 5): the line, 18 pixels",
+        ),
+    ]
+}
+
 #[test]
 fn the_page_draws_its_list() {
     let text = section("## A whole list");
@@ -884,20 +914,52 @@ fn the_page_draws_its_list() {
     let [list, picture] = &blocks[..] else {
         panic!("not two blocks");
     };
-    assert!(text.contains("a board of 16 by 6"));
+    assert!(text.contains("Ten entries for a board of 16 by 6"));
     let mut panel = Panel::of_size(16, 6);
-    for line in list.lines() {
-        let words: Vec<&str> = line.split_whitespace().collect();
-        let byte = |k: usize| u8::from_str_radix(words[k], 16).expect("a byte");
-        let bytes = [0, 1, 2, 3, 4].map(byte);
-        let entry = Entry::from_bytes(bytes).expect("an entry");
-        assert_eq!(name_of(entry.register), words[5]);
-        panel.put_bytes(bytes);
+    let mut expected = String::new();
+    for (entry, about) in whole_list() {
+        panel.put(entry.register, entry.word);
+        let hex = entry.to_bytes().map(|byte| format!("{byte:02X}")).join(" ");
+        expected += &format!("{hex}   {:<7}{about}\n", name_of(entry.register));
     }
-    let entries = panel.count;
-    let steps = entries + panel.draw();
+    assert_eq!(*list, expected);
+    let steps = panel.count + panel.draw();
+    assert_eq!(steps, 10 + 36 + 18);
     assert!(text.contains(&format!("it takes {steps} steps")), "{steps}");
     assert_eq!(panel.rows(), picture.lines().collect::<Vec<&str>>());
+}
+
+/// Whether a stippled blit draws at bit position (x, 0), with one bit of one byte of row 0 set.
+fn bit_is_read(x: i16, byte: usize, bit: u32) -> bool {
+    let mut panel = Panel::new();
+    panel.virt[byte] = 1 << bit;
+    panel.put(Register::Fore, 5);
+    panel.put(Register::Xy0, point(x, 0));
+    panel.blit(Flags::STPL | Flags::SOURCE_VIRTUAL, size(1, 1), point(0, 0));
+    assert_eq!(panel.draw(), 1);
+    panel.display[0] == 5
+}
+
+#[test]
+fn the_page_draws_the_bits_of_a_row() {
+    let blocks = blocks("### Text");
+    let lines: Vec<&str> = blocks[0].lines().collect();
+    let [bytes, positions, bits] = lines[..] else {
+        panic!("not three lines");
+    };
+    let second = bytes.find("byte 1").expect("byte 1");
+    assert!(bytes.starts_with("byte 0 of row y"));
+    let digits = |line: &str| -> Vec<(usize, u32)> {
+        let digit = |(at, letter): (usize, char)| Some((at, letter.to_digit(10)?));
+        line.char_indices().filter_map(digit).collect()
+    };
+    let (positions, bits) = (digits(positions), digits(bits));
+    assert_eq!((positions.len(), bits.len()), (10, 10));
+    for (k, (x, bit)) in positions.into_iter().zip(bits).enumerate() {
+        assert_eq!((x.0, x.1 as usize), (bit.0, k));
+        let byte = usize::from(x.0 >= second);
+        assert!(bit_is_read(x.1 as i16, byte, bit.1), "bit {}", x.1);
+    }
 }
 
 #[test]
