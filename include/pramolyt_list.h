@@ -15,13 +15,11 @@
 #include <stdint.h>
 
 /* Limits. */
-enum {
-    PRAMOLYT_ENTRY_BYTES = 5,         /* bytes of an entry */
-    PRAMOLYT_MAX_ENTRIES = 4096,      /* entries of a list memory, at least 1 */
-    PRAMOLYT_MAX_SIDE = 2048,         /* width and height of a board, at least 1, and of a blit, which may be 0 */
-    PRAMOLYT_MAX_PATTERN_LENGTH = 32, /* bits of a line pattern, at least 1 */
-    PRAMOLYT_MAX_PATTERN_SCALE = 8    /* pixels for each of its bits, at least 1 */
-};
+#define PRAMOLYT_ENTRY_BYTES 5         /* bytes of an entry */
+#define PRAMOLYT_MAX_ENTRIES 4096      /* entries of a list memory, at least 1 */
+#define PRAMOLYT_MAX_SIDE 2048         /* width and height of a board, at least 1, and of a blit, which may be 0 */
+#define PRAMOLYT_MAX_PATTERN_LENGTH 32 /* bits of a line pattern, at least 1 */
+#define PRAMOLYT_MAX_PATTERN_SCALE 8   /* pixels for each of its bits, at least 1 */
 
 /* The registers. XY1 comes last: writing it triggers the command in CMD. */
 enum {

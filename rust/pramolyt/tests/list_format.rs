@@ -982,41 +982,40 @@ fn in_c(name: impl std::fmt::Debug) -> String {
     found
 }
 
-/// The constants of the module, by their names in C and as the header writes them.
-fn constants() -> Vec<(String, String)> {
-    let mut found = vec![
-        ("ENTRY_BYTES".to_string(), ENTRY_BYTES.to_string()),
-        ("MAX_ENTRIES".to_string(), MAX_ENTRIES.to_string()),
-        ("MAX_SIDE".to_string(), MAX_SIDE.to_string()),
-        (
-            "MAX_PATTERN_LENGTH".to_string(),
-            MAX_PATTERN_LENGTH.to_string(),
-        ),
-        (
-            "MAX_PATTERN_SCALE".to_string(),
-            MAX_PATTERN_SCALE.to_string(),
-        ),
-    ];
-    let mut add = |name: String, number: usize| found.push((name, number.to_string()));
+/// The limits, by their names in C.
+fn limits() -> [(&'static str, usize); 5] {
+    [
+        ("ENTRY_BYTES", ENTRY_BYTES),
+        ("MAX_ENTRIES", MAX_ENTRIES),
+        ("MAX_SIDE", MAX_SIDE),
+        ("MAX_PATTERN_LENGTH", MAX_PATTERN_LENGTH.into()),
+        ("MAX_PATTERN_SCALE", MAX_PATTERN_SCALE.into()),
+    ]
+}
+
+/// The other constants of the module, as the header writes them.
+fn constants() -> Vec<String> {
+    let mut found = Vec::new();
     for register in Register::ALL {
-        add(in_c(register), register.number().into());
+        found.push(format!("{} = {}", in_c(register), register.number()));
     }
     for opcode in OPCODES {
-        add(in_c(opcode), opcode as usize);
+        found.push(format!("{} = {}", in_c(opcode), opcode as u32));
     }
     for (code, _) in codes(0, 0) {
-        add(format!("GX_{}", in_c(code)), code as usize);
+        found.push(format!("GX_{} = {}", in_c(code), code as u32));
     }
     for direction in DIRECTIONS {
-        add(format!("FROM_{}", in_c(direction)), direction as usize);
+        found.push(format!("FROM_{} = {}", in_c(direction), direction.word()));
     }
     for buffer in [Buffer::Display, Buffer::Virtual] {
-        add(in_c(buffer), buffer.number());
+        found.push(format!("{} = {}", in_c(buffer), buffer.number()));
     }
     for (name, flag) in FLAGS {
         let of_buffer = ["SOURCE", "DESTINATION"].contains(&name);
-        let name = format!("CMD_{name}{}", if of_buffer { "_VIRTUAL" } else { "" });
-        found.push((name, format!("1 << {}", flag.bits().trailing_zeros())));
+        let end = if of_buffer { "_VIRTUAL" } else { "" };
+        let bit = flag.bits().trailing_zeros();
+        found.push(format!("CMD_{name}{end} = 1 << {bit}"));
     }
     found
 }
@@ -1026,15 +1025,17 @@ fn the_header_has_the_same_constants() {
     let header = project("include/pramolyt_list.h");
     let written: Vec<&str> = header
         .split(|c| "{},\n/".contains(c))
-        .map(str::trim)
-        .filter(|part| part.starts_with("PRAMOLYT_") && part.contains(" = "))
+        .filter_map(|part| part.trim().strip_prefix("PRAMOLYT_"))
+        .filter(|part| part.contains(" = "))
         .collect();
-    let expected = constants();
-    for (name, number) in &expected {
-        let line = format!("PRAMOLYT_{name} = {number}");
-        assert!(written.contains(&line.as_str()), "{line}");
+    assert_eq!(written.len(), constants().len());
+    for constant in constants() {
+        assert!(written.contains(&constant.as_str()), "{constant}");
     }
-    assert_eq!(written.len(), expected.len());
-    assert!(header.contains("#define PRAMOLYT_ILLEGAL_WORD 0xFFFFFFFFu"));
+    for (name, number) in limits() {
+        let line = format!("#define PRAMOLYT_{name} {number} ");
+        assert!(header.contains(&line), "{line}");
+    }
+    assert!(header.contains("#define PRAMOLYT_ILLEGAL_WORD 0xFFFFFFFFu\n"));
     assert_eq!(ILLEGAL_WORD, 0xFFFF_FFFF);
 }
