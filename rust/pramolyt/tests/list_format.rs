@@ -877,6 +877,49 @@ fn the_page_has_the_bits_of_a_pattern() {
     assert_eq!(drawn.join(" "), bits);
 }
 
+#[test]
+fn the_pattern_is_set_and_moves_as_the_page_says() {
+    let mut panel = Panel::new();
+    let mut state_after = |put: &dyn Fn(&mut Panel)| {
+        put(&mut panel);
+        panel.draw();
+        (
+            panel.member("pattern_place"),
+            panel.member("pattern_repeat"),
+        )
+    };
+    let line = |flags| move |panel: &mut Panel| panel.line(flags, point(0, 0), point(2, 0));
+    let hidden = |panel: &mut Panel| panel.line(Flags::STPL, point(0, -9), point(2, -9));
+    let start = |panel: &mut Panel| panel.put(Register::Pctrl, pattern(9, 2, 1, 0));
+    let bits = |panel: &mut Panel| panel.put(Register::Lpat, 5);
+    assert_eq!(state_after(&start), (1, 0));
+    assert_eq!(state_after(&line(Flags::STPL)), (2, 1));
+    assert_eq!(state_after(&line(Flags::SOLID)), (2, 1));
+    assert_eq!(state_after(&bits), (2, 1));
+    assert_eq!(state_after(&hidden), (4, 0));
+    assert_eq!(state_after(&line(Flags::STPL | Flags::TRNSP)), (5, 1));
+    assert_eq!(state_after(&line(Flags::SOLID | Flags::PRST)), (1, 0));
+    assert_eq!(state_after(&line(Flags::STPL)), (2, 1));
+    assert_eq!(state_after(&start), (1, 0));
+}
+
+#[test]
+fn the_last_point_is_as_the_page_says() {
+    let mut panel = Panel::new();
+    assert_eq!(panel.member("last"), point(0, 0));
+    panel.line(Flags::SOLID | Flags::NLST, point(0, 0), point(3, 1));
+    panel.draw();
+    assert_eq!(panel.member("last"), point(3, 1));
+    panel.put(Register::Cmd, 0);
+    panel.put(Register::Xy1, point(6, 2));
+    panel.draw();
+    assert_eq!(panel.member("last"), point(3, 1));
+    panel.put(Register::Xy3, Direction::LowerRight.word());
+    panel.blit(Flags::SOLID, size(2, 2), point(5, 3));
+    panel.draw();
+    assert_eq!(panel.member("last"), point(5, 3));
+}
+
 /// The entries of the page's list, and what it says of each.
 fn whole_list() -> [(Entry, &'static str); 10] {
     let bar = command(Opcode::Bitblt, RasterCode::Copy, Flags::SOLID);
