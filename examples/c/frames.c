@@ -80,7 +80,8 @@ static uint32_t run(uint64_t budget, uint64_t *steps)
     return pramolyt_run(&board, steps, budget, memory, sizeof memory, display, sizeof display, virt, sizeof virt);
 }
 
-/* What no call does: a bit of an entry changes. The entry has now a register that there is not. */
+/* What no call does: a bit of an entry changes. The entry now names a register that there is not, so that a run stops there; a
+ * change that leaves an entry legal is not noticed. */
 static void damage(size_t entry)
 {
     memory[PRAMOLYT_ENTRY_BYTES * entry] ^= 0x80;

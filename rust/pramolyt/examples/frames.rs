@@ -106,7 +106,8 @@ impl Panel {
         self.board.words()[NEXT] as usize
     }
 
-    /// What no call does: a bit of an entry changes. The entry has now a register that there is not.
+    /// What no call does: a bit of an entry changes. The entry now names a register that there is not, so that a run stops
+    /// there; a change that leaves an entry legal is not noticed.
     fn damage(&mut self, entry: usize) {
         self.memory[ENTRY_BYTES * entry] ^= 0x80;
         println!("  a fault changes entry {entry}");
