@@ -11,17 +11,9 @@
 #include <string.h>
 
 #include "pramolyt.h"
+#include "pramolyt_list.h"
 
 enum { WIDTH = 75, HEIGHT = 18, ENTRIES = 64 };
-
-/* The registers that the lists write, by their numbers. */
-enum { CMD = 0, FORE = 1, BACK = 2, XY0 = 9, XY2 = 10, XY1 = 12 };
-
-/* What CMD can hold, among others: an opcode, a raster code, flags and the source. TEXT is BITBLT, code 3 (copy), with STPL,
- * by which a 1 of the source's bits draws FORE and a 0 BACK, from the virtual buffer. BAR is LINE, code 6 (exclusive or),
- * with SOLID, which draws with FORE. */
-static const uint32_t TEXT = 0x13210000;
-static const uint32_t BAR = 0x26800000;
 
 /* The font, a character a pixel, its letters in bands of 13. */
 enum { CELL_WIDTH = 6, CELL_HEIGHT = 8, BAND_WIDTH = 13 * CELL_WIDTH };
@@ -29,83 +21,77 @@ static const char letters[] = "ABCDEFGHIJKLMNOPQRSTUVWXYZ0123456789-:.";
 static const char font[] =
 #include "../font.inc"
     ;
-_Static_assert(sizeof font - 1 == 3 * BAND_WIDTH * CELL_HEIGHT, "three bands");
+static_assert(sizeof font - 1 == 3 * BAND_WIDTH * CELL_HEIGHT, "three bands");
 
 /* The lines of the call, and the upper edge of each on the board. */
 static const struct {
     const char *text;
-    int16_t top;
+    int top;
 } lines[] = {{"FAIRWIND", 1}, {"WALL 3 05:10", 10}};
 enum { LINES = sizeof lines / sizeof lines[0] };
 
 /* A display list while it is built. */
 typedef struct {
-    uint8_t bytes[5 * ENTRIES];
+    uint8_t bytes[PRAMOLYT_ENTRY_BYTES * ENTRIES];
     size_t count;
 } display_list;
 
-/* An entry: five bytes that write data into a register. */
-static void entry(display_list *list, unsigned reg, uint32_t data)
+static void entry(display_list *list, unsigned reg, uint32_t word)
 {
     assert(list->count < ENTRIES);
-    uint8_t *bytes = list->bytes + 5 * list->count++;
-    bytes[0] = (uint8_t)(reg << 3);
-    for (int k = 1; k <= 4; k++)
-        bytes[k] = (uint8_t)(data >> (32 - 8 * k));
-}
-
-/* Two numbers in one word: x and y of a point, or width and height. */
-static uint32_t pair(int16_t x, int16_t y)
-{
-    return (uint32_t)(uint16_t)x << 16 | (uint16_t)y;
+    pramolyt_put_entry(list->bytes + PRAMOLYT_ENTRY_BYTES * list->count++, reg, word);
 }
 
 /* The bit position of a letter's cell in the virtual buffer. A letter that the font lacks, as the space, has the blank cell
  * after the last. */
 static uint32_t glyph(char letter)
 {
-    size_t k = strcspn(letters, (const char[]){letter, '\0'});
-    return pair((int16_t)(CELL_WIDTH * k), 0);
+    const char *at = strchr(letters, letter);
+    size_t k = at != NULL ? (size_t)(at - letters) : strlen(letters);
+    return pramolyt_point((int)(CELL_WIDTH * k), 0);
 }
 
 /* A line of text, a blit a letter. Writing XY1, the cell's corner on the board, draws it. */
-static void text_line(display_list *list, const char *text, int16_t x, int16_t y)
+static void text_line(display_list *list, const char *text, int x, int y)
 {
     for (; *text != '\0'; text++) {
-        entry(list, XY0, glyph(*text));
-        entry(list, XY1, pair(x, y));
+        entry(list, PRAMOLYT_XY0, glyph(*text));
+        entry(list, PRAMOLYT_XY1, pramolyt_point(x, y));
         x += CELL_WIDTH;
     }
 }
 
-/* The lines of the call, in colour 1 on colour 0. */
+/* The lines of the call, in colour 1 on colour 0. With STPL a blit draws from bits, here those of the virtual buffer: a 1
+ * draws FORE and a 0 BACK. */
 static display_list call(void)
 {
-    display_list list = {0};
-    entry(&list, FORE, 1);
-    entry(&list, BACK, 0);
-    entry(&list, CMD, TEXT);
-    entry(&list, XY2, pair(CELL_WIDTH, CELL_HEIGHT));
+    display_list list = {{0}, 0};
+    uint32_t flags = PRAMOLYT_CMD_STPL | PRAMOLYT_CMD_SOURCE_VIRTUAL;
+    entry(&list, PRAMOLYT_FORE, 1);
+    entry(&list, PRAMOLYT_BACK, 0);
+    entry(&list, PRAMOLYT_CMD, pramolyt_command(PRAMOLYT_BITBLT, PRAMOLYT_GX_COPY, flags));
+    entry(&list, PRAMOLYT_XY2, pramolyt_size(CELL_WIDTH, CELL_HEIGHT));
     for (int k = 0; k < LINES; k++)
         text_line(&list, lines[k].text, 2, lines[k].top);
     return list;
 }
 
-/* A bar through each line. It inverts bit 1 of its pixels: colour 0 becomes 2, and the text, 1, becomes 3. */
+/* A bar through each line. Exclusive or with 2 inverts bit 1 of its pixels: colour 0 becomes 2, and the text, 1, becomes
+ * 3. */
 static display_list bar(void)
 {
-    display_list list = {0};
-    entry(&list, FORE, 2);
-    entry(&list, CMD, BAR);
+    display_list list = {{0}, 0};
+    entry(&list, PRAMOLYT_FORE, 2);
+    entry(&list, PRAMOLYT_CMD, pramolyt_command(PRAMOLYT_LINE, PRAMOLYT_GX_XOR, PRAMOLYT_CMD_SOLID));
     for (int k = 0; k < LINES; k++) {
-        entry(&list, XY0, pair(0, lines[k].top + 3));
-        entry(&list, XY1, pair(WIDTH - 1, lines[k].top + 3));
+        entry(&list, PRAMOLYT_XY0, pramolyt_point(0, lines[k].top + 3));
+        entry(&list, PRAMOLYT_XY1, pramolyt_point(WIDTH - 1, lines[k].top + 3));
     }
     return list;
 }
 
 static pramolyt_board board;
-static uint8_t memory[5 * ENTRIES];
+static uint8_t memory[PRAMOLYT_ENTRY_BYTES * ENTRIES];
 static uint8_t display[WIDTH * HEIGHT];
 static uint8_t virt[WIDTH * HEIGHT];
 
@@ -129,14 +115,15 @@ static void write_font(void)
         if (font[k] == '#')
             bits[row % CELL_HEIGHT * WIDTH + x / 8] |= (uint8_t)(0x80 >> x % 8);
     }
-    check("window write", pramolyt_window_write(&board, 1, 0, bits, sizeof bits, virt, sizeof virt));
+    check("window write", pramolyt_window_write(&board, PRAMOLYT_VIRTUAL, 0, bits, sizeof bits, virt, sizeof virt));
 }
 
 /* Stores, posts and runs a list. */
 static void draw(const char *name, const display_list *list)
 {
     uint64_t place, steps;
-    check("store", pramolyt_store(&board, memory, sizeof memory, 0, list->bytes, 5 * list->count));
+    size_t length = PRAMOLYT_ENTRY_BYTES * list->count;
+    check("store", pramolyt_store(&board, memory, sizeof memory, 0, list->bytes, length));
     check("post", pramolyt_post(&board, &place, memory, sizeof memory, 0, list->count));
     check("run", pramolyt_run(&board, &steps, 10000, memory, sizeof memory, display, sizeof display, virt, sizeof virt));
     printf("%s: %zu entries, %" PRIu64 " steps\n", name, list->count, steps);

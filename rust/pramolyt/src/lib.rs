@@ -33,6 +33,7 @@ extern crate std;
 
 mod answer;
 mod ffi;
+pub mod list;
 #[cfg(test)]
 mod tests;
 
