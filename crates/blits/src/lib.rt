@@ -41,8 +41,10 @@ pub enum Paint {
     StippledWithin(Stipple),
 }
 
-// A blit from corner to corner, by register words, on buffers of width x height pixels.
+// A blit from corner to corner, by register words, on buffers of width x height pixels. What it is painted with comes first: so
+// it is stored a while before it is read.
 pub struct Blit {
+    pub paint: Paint,
     pub width: u32,
     pub height: u32,
     pub window: Window,
@@ -50,7 +52,6 @@ pub struct Blit {
     pub to: u32,
     pub size: u32,
     pub direction: u32,
-    pub paint: Paint,
 }
 
 // The columns `across` of the rows `down` of a blit from corner to corner.

@@ -88,6 +88,7 @@ fn blit(e: Engine, extent: Extent) -> Blit
     let g = e.registers;
     let c = command_of(g.cmd);
     Blit {
+        paint: paint(e),
         width: extent.width,
         height: extent.height,
         window: window_of(extent, c.clip, g.clptl, g.clpbr),
@@ -95,7 +96,6 @@ fn blit(e: Engine, extent: Extent) -> Blit
         to: g.xy1,
         size: g.xy2,
         direction: g.xy3,
-        paint: paint(e),
     }
 }
 

@@ -27,7 +27,7 @@ rem-column : tie.Need-rem-column Inv-loop μ-loop
 rem-column c = omega (arith, some-columns c)
 
 loop-holds : tie.Need-loop-holds Inv-loop μ-loop
-loop-holds c = let start = c .before .before .before in visiting-start _ _ _ _ _ (start .pre .0) (search needs) (start .pre .1)
+loop-holds c = let start = c .before .before .before in visiting-start _ _ _ _ _ (start .pre .0) (omega (arith, c .struct-known .given)) (start .pre .1)
 
 add-loop : tie.Need-add-loop Inv-loop μ-loop
 add-loop c = omega (arith, visiting-far (c .loop .inv))

@@ -12,7 +12,7 @@ paint-requires : tie.Need-paint-requires
 paint-requires c κs = search needs
 
 returns : tie.Need-returns
-returns c = rw (c .paint .ensures, c .before .window-of .ensures, c .before .before .command-of .ensures)
+returns c = rw (c .window-of .ensures, c .before .paint .ensures, c .before .before .command-of .ensures)
 
 pub blit-spec : {M : Type 1} → statement M
-blit-spec = tie.close (tie.spec command-of-requires window-of-requires paint-requires returns)
+blit-spec = tie.close (tie.spec command-of-requires paint-requires window-of-requires returns)
