@@ -6,20 +6,22 @@ use mathlib.Core.List.{List}
 use Prim.Native.Nat.{ℕ, zero, suc, _+_, _-_, _*_, _/_, _%_, _≤_, _<_}
 use native.Mathlib.Numerals.{add-one}
 use native.Mathlib.Omega.{arith}
-use borrow.Author.Tests.{eqb-true, eq-eqb, ne-eqb}
+use borrow.Author.Tests.{eqb-true, eq-eqb, ne-eqb, lt-ltb}
 use lib.Dec.{eqb, ltb, leb}
 use lib.ListN.{length}
+use Rattle.lemmas.proofs.Booleans.{by-cases, and-left, and-right, or-by}
 use Rattle.entries.specs.Layout.{entryOf}
-use Rattle.entries.specs.Legality.{entryLegal, decodedLegal, legalAt}
+use Rattle.entries.specs.Legality.{dataLegal, entryLegal, decodedLegal, legalAt}
 use Rattle.entries.specs.declared.decoding.Entry.{Entry}
 use Rattle.entries.proofs.Decodes.{decoded-whole}
 use Rattle.packing.specs.Editions.{groupsFor}
 use Rattle.packing.specs.Groups.{groupOf, positionOf, closingOf, countOf}
 use Rattle.packing.specs.Reports.{Report, report}
-use Rattle.packing.specs.Conversions.{failsAt, firstNot, holds, judgedBy, legalityOf, passes, firstFailing, wellFormed, judgement, judgedFrom}
+use Rattle.packing.specs.Conversions.{failsAt, firstNot, holds, judgedBy, legalityOf}
+use Rattle.packing.specs.Conversions.{passes, firstFailing, placed, wellFormed, judgement, judgedFrom, fullGroup, leading}
 use Rattle.packing.specs.declared.groups.Group.{Group}
 use Rattle.packing.proofs.Puts.{position-first, position-second, position-third}
-use Rattle.packing.proofs.Searches.{first-none, first-here, first-next}
+use Rattle.packing.proofs.Searches.{first-none, first-here, first-next, lead-over, lead-stops, lead-goes}
 
 -- ---- edition 1: the entries from place k on
 module _ (l : List ℕ) where
@@ -221,3 +223,97 @@ module _ (l : List ℕ) (count : ℕ) (sound : Bool) (g : ℕ) where
   pub judged-goes : g < length l / 14 → (k : ℕ) (x : Group) (good : Bool) → x ≡ groupOf l g → k ≡ firstFailing x → 3 ≤ k → good ≡ wellFormed x (3 * g) count
       → judgedFrom l count sound g rest ≡ judgedFrom l count (sound && good) (g + 1) (length l / 14 - (g + 1))
   judged-goes h k x good = judged-next l count sound g rest (length l / 14 - (g + 1)) k x good (omega arith)
+
+-- ---- legal entries: their number is no 31, their spare bits are zero
+no-31 : (word : ℕ) → dataLegal 31 word ≡ false
+unfolding dataLegal
+no-31 word = refl
+
+pub legal-real : (e : Entry) → entryLegal e ≡ true → e .register ≡ 31 → ⊥
+legal-real e h q =
+    false≢true
+    (sym (ap (λ (r : ℕ). dataLegal r (e .word)) q ∙ no-31 (e .word)) ∙ and-right (eqb (e .spare) 0) (dataLegal (e .register) (e .word)) h)
+
+-- such an entry passes, and is in its place before the count
+pub legal-passes : (e : Entry) → entryLegal e ≡ true → passes e ≡ true
+legal-passes e h = or-by (eqb (e .register) 31) (entryLegal e) (λ u. h)
+
+pub legal-placed : (e : Entry) (place count : ℕ) → place < count → entryLegal e ≡ true → placed e place count ≡ true
+legal-placed e place count k h = rw (lt-ltb place count k, ne-eqb (e .register) 31 (legal-real e h))
+
+pub legal-spare : (e : Entry) → entryLegal e ≡ true → e .spare ≡ 0
+legal-spare e h = eqb-true (e .spare) 0 (and-left (eqb (e .spare) 0) (dataLegal (e .register) (e .word)) h)
+
+-- ---- four tests at once
+pub all-four : (a b c d : Bool) → (a && b && c && d) ≡ true → (a ≡ true) × (b ≡ true) × (c ≡ true) × (d ≡ true)
+all-four true true true true e = (refl, refl, refl, refl)
+all-four true true true false e = absurd (false≢true e)
+all-four true true false d e = absurd (false≢true e)
+all-four true false c d e = absurd (false≢true e)
+all-four false b c d e = absurd (false≢true e)
+
+pub four-all : (a b c d : Bool) → a ≡ true → b ≡ true → c ≡ true → d ≡ true → (a && b && c && d) ≡ true
+four-all a b c d p q r s = rw (p, q, r, s)
+
+-- ---- full groups before the count
+module _ (x : Group) (h : fullGroup x ≡ true) where
+  abbrev four : (eqb (x .zero) 0 ≡ true) × (entryLegal (x .first) ≡ true) × (entryLegal (x .second) ≡ true) × (entryLegal (x .third) ≡ true)
+  four = all-four (eqb (x .zero) 0) (entryLegal (x .first)) (entryLegal (x .second)) (entryLegal (x .third)) h
+
+  full-passes : 3 ≡ firstFailing x
+  full-passes = none-fails x (legal-passes (x .first) (four .1)) (legal-passes (x .second) (four .2)) (legal-passes (x .third) (four .3))
+
+  full-formed : (place count : ℕ) → place + 2 < count → true ≡ wellFormed x place count
+  full-formed place count k =
+      sym
+      (four-all (eqb (x .zero) 0) (placed (x .first) place count) (placed (x .second) (place + 1) count) (placed (x .third) (place + 2) count)
+      (four .0) (legal-placed (x .first) place count (omega arith) (four .1))
+      (legal-placed (x .second) (place + 1) count (omega arith) (four .2)) (legal-placed (x .third) (place + 2) count k (four .3)))
+
+abbrev pub fullAt : List ℕ → ℕ → Bool
+fullAt l g = fullGroup (groupOf l g)
+
+-- the search for them, of `most` groups, from group g on
+module _ (l : List ℕ) (most : ℕ) where
+  abbrev endOf : ℕ → ℕ
+  endOf g = leading (fullAt l) g (most - g)
+
+  pub full-start : leading (fullAt l) 0 most ≡ endOf 0
+  full-start = let e : most ≡ most - 0 = omega arith in ap (leading (fullAt l) 0) e
+
+  pub full-over : (g : ℕ) → most ≤ g → endOf g ≡ g
+  full-over g h = lead-over (fullAt l) g (most - g) (omega arith)
+
+  full-at : (g : ℕ) (x : Group) (t b : Bool) → x ≡ groupOf l g → t ≡ fullGroup x → t ≡ b → fullAt l g ≡ b
+  full-at g x t b p q r = sym (q ∙ ap fullGroup p) ∙ r
+
+  pub full-stops : (g : ℕ) → g < most → (x : Group) (t : Bool) → x ≡ groupOf l g → t ≡ fullGroup x → t ≡ false → endOf g ≡ g
+  full-stops g h x t p q r = lead-stops (fullAt l) g (most - g) (most - (g + 1)) (omega arith) (full-at g x t false p q r)
+
+  pub full-goes : (g : ℕ) → g < most → (x : Group) (t : Bool) → x ≡ groupOf l g → t ≡ fullGroup x → t ≡ true → endOf g ≡ endOf (g + 1)
+  full-goes g h x t p q r = lead-goes (fullAt l) g (most - g) (most - (g + 1)) (omega arith) (full-at g x t true p q r)
+
+module _ (l : List ℕ) (count : ℕ) (sound : Bool) where
+  abbrev from : ℕ → Report
+  from g = judgedFrom l count sound g (length l / 14 - g)
+
+  one-full : (g : ℕ) → g < length l / 14 → 3 * g + 2 < count → fullAt l g ≡ true → from g ≡ from (g + 1)
+  one-full g h k f =
+      judged-goes l count sound g h 3 (groupOf l g) true refl (full-passes (groupOf l g) f) (omega arith) (full-formed (groupOf l g) f (3 * g) count k)
+      ∙ ap (λ (t : Bool). judgedFrom l count t (g + 1) (length l / 14 - (g + 1))) (and-true sound)
+
+  pub lead-judged : (g n : ℕ) → g + n ≤ length l / 14 → 3 * (g + n) ≤ count → from g ≡ from (leading (fullAt l) g n)
+  unfolding leading
+  lead-judged g zero h k = refl
+  lead-judged g (suc n) h k =
+      by-cases (fullAt l g)
+      (λ t.
+      let e : g + 1 ≡ suc g = omega arith in
+      rw t (one-full g (omega arith) (omega arith) t ∙ ap from e ∙ lead-judged (suc g) n (omega arith) (omega arith)))
+      (λ t. rw t)
+
+  -- the groups past the full ones decide
+  pub judged-past : (k : ℕ) → count ≤ 3 * (length l / 14) → k ≡ leading (fullAt l) 0 (count / 3) → (r : Report) → r ≡ from k
+      → r ≡ judgedFrom l count sound 0 (length l / 14)
+  judged-past k h e r q =
+      q ∙ ap from e ∙ sym (judged-start l count sound 0 refl ∙ lead-judged 0 (count / 3) (omega arith) (omega arith))

@@ -22,24 +22,11 @@ use Rattle.packing.specs.RoundTrip.{Bytes, LegalList, done, ComesBack, O
 use Rattle.packing.specs.declared.groups.Group.{Group}
 use Rattle.packing.proofs.Runs.{strung-agree}
 use Rattle.packing.proofs.Puts.{position-first, position-second, position-third}
-use Rattle.packing.proofs.Judges.{closing-none, closing-one, count-is, count-most}
+use Rattle.packing.proofs.Judges.{closing-none, closing-one, count-is, count-most, legal-real, legal-spare, legal-passes, legal-placed, all-four, four-all}
 use Rattle.packing.proofs.Answers.{packSize, pack-judged, unpackSize, unpack-judged, illegalOf, sound, failingOf, Unpacks, unpacks, list-size, packed-size}
 use Rattle.packing.proofs.Words.{join-small}
 use Rattle.packing.proofs.Searches.{none-found, all-pass, all-hold, each-holds}
 use Rattle.packing.proofs.Back.{Plain, entry-same, by-three, entry-back, list-whole, or-there, or-missing, group-byte, zero-back, first-back, second-back, third-back, position-back, count-back, group-bytes}
-
--- ---- legal entries: their number is no 31, their spare bits are zero
-no-31 : (word : ℕ) → dataLegal 31 word ≡ false
-unfolding dataLegal
-no-31 word = refl
-
-pub legal-real : (e : Entry) → entryLegal e ≡ true → e .register ≡ 31 → ⊥
-legal-real e h q =
-    false≢true
-    (sym (ap (λ (r : ℕ). dataLegal r (e .word)) q ∙ no-31 (e .word)) ∙ and-right (eqb (e .spare) 0) (dataLegal (e .register) (e .word)) h)
-
-legal-spare : (e : Entry) → entryLegal e ≡ true → e .spare ≡ 0
-legal-spare e h = eqb-true (e .spare) 0 (and-left (eqb (e .spare) 0) (dataLegal (e .register) (e .word)) h)
 
 -- ---- a list whose entries are legal packs
 module _ (l : List ℕ) (n : ℕ) (whole : length l ≡ 5 * n) (some : 0 < n) (few : n ≤ 4096) (legal : (k : ℕ) → k < n → entryLegal (entryOf l k) ≡ true) where
@@ -72,16 +59,6 @@ unpacks-to m room whole fits some few legal formed =
     (unpack-judged m room (countOf m) refl size some few (report 0 0 (5 * countOf m))
     (sym (ap (judgement (countOf m) (sound m)) legal ∙ ap (λ (t : Bool). cond t (report 0 0 (5 * countOf m)) (report 10 0 0)) formed)))
 
-all-four : (a b c d : Bool) → (a && b && c && d) ≡ true → (a ≡ true) × (b ≡ true) × (c ≡ true) × (d ≡ true)
-all-four true true true true e = (refl, refl, refl, refl)
-all-four true true true false e = absurd (false≢true e)
-all-four true true false d e = absurd (false≢true e)
-all-four true false c d e = absurd (false≢true e)
-all-four false b c d e = absurd (false≢true e)
-
-four-all : (a b c d : Bool) → a ≡ true → b ≡ true → c ≡ true → d ≡ true → (a && b && c && d) ≡ true
-four-all a b c d p q r s = rw (p, q, r, s)
-
 -- ---- a legal list comes back
 module _ (l : List ℕ) (n : ℕ) (ok : LegalList l n) where
   abbrev e : ℕ → Entry
@@ -110,11 +87,11 @@ module _ (l : List ℕ) (n : ℕ) (ok : LegalList l n) where
   passing : (k : ℕ) → passes (orMissing e n k) ≡ true
   passing k =
       by-cases (ltb k n)
-      (λ t. let h = ltb-true k n t in ap passes (or-there e n k h) ∙ or-by (eqb (e k .register) 31) (entryLegal (e k)) (λ u. ok .legal k h))
+      (λ t. let h = ltb-true k n t in ap passes (or-there e n k h) ∙ legal-passes (e k) (ok .legal k h))
       (λ t. ap passes (or-missing e n k (ltb-false k n t)))
 
   in-place : (k : ℕ) → k < n → placed (e k) k n ≡ true
-  in-place k h = rw (lt-ltb k n h, ne-eqb (e k .register) 31 (real k h))
+  in-place k h = legal-placed (e k) k n h (ok .legal k h)
 
   past : (k : ℕ) → n ≤ k → placed missing k n ≡ true
   past k h = rw (le-ltb k n h, le-leb n k h)

@@ -8,7 +8,7 @@ use native.Mathlib.Omega.{arith}
 use borrow.Author.Tests.{eqb-true, eqb-false}
 use lib.Dec.{eqb}
 use Rattle.lemmas.proofs.Booleans.{by-cases, and-left, and-right, and-both}
-use Rattle.packing.specs.Conversions.{Found, failsAt, nowhere, firstNot, holds}
+use Rattle.packing.specs.Conversions.{Found, failsAt, nowhere, firstNot, holds, leading}
 
 -- ---- one place at a time
 pub first-none : (f : ℕ → Bool) (p n : ℕ) → n ≡ 0 → firstNot f p n ≡ nowhere
@@ -22,6 +22,19 @@ first-here f p n m h e = rw (h, add-one m, e)
 pub first-next : (f : ℕ → Bool) (p n m : ℕ) → n ≡ m + 1 → f p ≡ true → firstNot f p n ≡ firstNot f (p + 1) m
 unfolding firstNot
 first-next f p n m h e = rw (h, add-one m, add-one p, e)
+
+-- ---- where a search ends
+pub lead-over : (f : ℕ → Bool) (p n : ℕ) → n ≡ 0 → leading f p n ≡ p
+unfolding leading
+lead-over f p n e = rw e
+
+pub lead-stops : (f : ℕ → Bool) (p n m : ℕ) → n ≡ m + 1 → f p ≡ false → leading f p n ≡ p
+unfolding leading
+lead-stops f p n m h e = rw (h, add-one m, e)
+
+pub lead-goes : (f : ℕ → Bool) (p n m : ℕ) → n ≡ m + 1 → f p ≡ true → leading f p n ≡ leading f (p + 1) m
+unfolding leading
+lead-goes f p n m h e = rw (h, add-one m, add-one p, e)
 
 -- ---- all of them
 pub none-found : (f : ℕ → Bool) (p n : ℕ) → ((q : ℕ) → p ≤ q → q < p + n → f q ≡ true) → firstNot f p n ≡ nowhere

@@ -72,6 +72,15 @@ judgedFrom l count sound g groups =
     judgement count (sound && holds (λ k. wellFormed (groupOf l k) (3 * k) count) g groups)
     (firstNot (λ p. passes (positionOf l p)) (3 * g) (3 * groups))
 
+-- Three legal entries, of which none is a 31, and a zero bit: such a group is sound wherever it stands before the count. And how
+-- many places a test holds at from p on, of n, before the first at which it fails: the place where that search ends.
+abbrev pub fullGroup : Group → Bool
+fullGroup x = eqb (x .zero) 0 && entryLegal (x .first) && entryLegal (x .second) && entryLegal (x .third)
+
+unfoldable pub leading : (ℕ → Bool) → ℕ → ℕ → ℕ
+leading f p zero = p
+leading f p (suc n) = cond (f p) (leading f (suc p) n) p
+
 -- "a group has at least one entry": the last is not of 31s alone.
 abbrev pub lastHasOne : List ℕ → ℕ → Bool
 lastHasOne l count = ltb (3 * (length l / 14)) (count + 3)

@@ -1,9 +1,11 @@
 // What a conversion answers, before it writes.
 ghost use mathlib.Core.Path.{_≡_};
-ghost use Prim.Native.Nat.{_+_, _/_, _≤_};
+ghost use Prim.Native.Nat.{_+_, _-_, _/_, _≤_};
 ghost use lib.ListN.{length};
 ghost use Rattle.packing.specs.Reports.{reportOf};
-ghost use Rattle.packing.specs.Conversions.{legalityOf, packReport, passes, firstFailing, placed, wellFormed, judgedFrom, unpackReport};
+ghost use Rattle.packing.specs.Groups.{groupOf};
+ghost use Rattle.packing.specs.Conversions.{legalityOf, packReport};
+ghost use Rattle.packing.specs.Conversions.{passes, firstFailing, placed, wellFormed, judgedFrom, fullGroup, leading, unpackReport};
 use crate::groups::Group;
 use crate::groups::count_of;
 use crate::groups::group_at;
@@ -50,8 +52,10 @@ pub fn pack_status(input: &[u8], room: usize) -> Status
 fn passes(e: Entry) -> bool
     ensures { λ r. ⌜ r ≡ passes e ⌝ }
 {
-    let legal = legal_entry(e.register, e.spare, e.word);
-    (e.register == 31) | legal
+    if e.register == 31 {
+        return true;
+    }
+    legal_entry(e.register, e.spare, e.word)
 }
 
 // The first entry of a group that does not pass, 3 for none.
@@ -91,14 +95,14 @@ fn well_formed(x: Group, place: usize, count: usize) -> bool
     (x.zero == 0) & a & b & c
 }
 
-// Group by group, the first illegal entry and whether all is well formed.
-fn judge_groups(list: &[u8], count: usize, start: bool) -> Status
+// Group by group from group `from` on, the first illegal entry and whether all is well formed.
+fn judge_groups(list: &[u8], count: usize, start: bool, from: usize) -> Status
     requires { ⌜ count ≤ 4096 ⌝ }
-    ensures { λ r. ⌜ reportOf r ≡ judgedFrom (now (list .entry)) count start 0 (length (now (list .entry)) / 14) ⌝ }
+    ensures { λ r. ⌜ reportOf r ≡ judgedFrom (now (list .entry)) count start from (length (now (list .entry)) / 14 - from) ⌝ }
 {
     let groups = list.len() / 14;
     let mut sound = start;
-    let mut g: usize = 0;
+    let mut g = from;
     loop {
         if groups <= g {
             break if sound {
@@ -108,12 +112,40 @@ fn judge_groups(list: &[u8], count: usize, start: bool) -> Status
             };
         }
         let x = group_at(list, g);
-        let bad = first_failing(x);
+        let failing = first_failing(x);
         let good = well_formed(x, 3 * g, count);
-        if bad < 3 {
-            break Status::IllegalEntry(3 * g + bad);
+        if failing < 3 {
+            break Status::IllegalEntry(3 * g + failing);
         }
         sound = sound & good;
+        g += 1;
+    }
+}
+
+// Three legal entries, of which none is a 31, and the zero bit zero.
+fn full(x: Group) -> bool
+    ensures { λ r. ⌜ r ≡ fullGroup x ⌝ }
+{
+    let a = legal_entry(x.first.register, x.first.spare, x.first.word);
+    let b = legal_entry(x.second.register, x.second.spare, x.second.word);
+    let c = legal_entry(x.third.register, x.third.spare, x.third.word);
+    (x.zero == 0) & a & b & c
+}
+
+// How many groups are full before the first that is not, at most `most`.
+fn full_groups(list: &[u8], most: usize) -> usize
+    requires { ⌜ most ≤ length (now list) / 14 ⌝ }
+    ensures { λ r. ⌜ r ≡ leading (λ g. fullGroup (groupOf (now (list .entry)) g)) 0 most ⌝ }
+{
+    let mut g: usize = 0;
+    loop {
+        if most <= g {
+            break g;
+        }
+        let x = group_at(list, g);
+        if !full(x) {
+            break g;
+        }
         g += 1;
     }
 }
@@ -132,5 +164,7 @@ pub fn unpack_status(input: &[u8], room: usize) -> Status
     if 4096 < count {
         return Status::TooMany;
     }
-    judge_groups(input, count, 3 * (input.len() / 14) < count + 3)
+    // Full groups are sound before the count; what is left is often the last group alone.
+    let from = full_groups(input, count / 3);
+    judge_groups(input, count, 3 * (input.len() / 14) < count + 3, from)
 }
