@@ -13,6 +13,7 @@ use lib.Seq.{sets}
 use Rattle.entries.specs.Layout.{entryOf, decodedOf}
 use Rattle.entries.specs.declared.decoding.Entry.{Entry}
 use Rattle.entries.specs.declared.decoding.Decoded.{Decoded}
+use Rattle.entries.proofs.Decodes.{decoded-whole}
 use Rattle.packing.specs.Editions.{strung, wordBytes, headBytes, headOf, entryBytes, groupBytes, wholeOr, presentOf, orMissing, packedGroup, packedOf, listOf, groupsFor}
 use Rattle.packing.specs.Groups.{groupOf, slotOf, positionOf}
 use Rattle.packing.specs.declared.groups.Group.{Group}
@@ -35,6 +36,9 @@ group-put l h p q r at head a b c e u v w x =
 -- what is decoded at a place decides
 pub present-by : (l : List ℕ) (k : ℕ) (d e : Decoded) → d ≡ decodedOf l k → d ≡ e → wholeOr e ≡ presentOf l k
 present-by l k d e p q = ap wholeOr (sym q ∙ p)
+
+pub whole-present : (l : List ℕ) (k : ℕ) (e : Entry) → k < length l / 5 → e ≡ entryOf l k → e ≡ presentOf l k
+whole-present l k e h p = p ∙ sym (ap wholeOr (decoded-whole l k h))
 
 pub group-same : (l n : List ℕ) (at : ℕ) (a b c p q r : Entry) → a ≡ p → b ≡ q → c ≡ r → n ≡ sets l at (groupBytes a b c)
     → n ≡ sets l at (groupBytes p q r)

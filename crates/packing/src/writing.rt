@@ -9,6 +9,7 @@ use crate::groups::group_at;
 use entries::Decoded;
 use entries::Entry;
 use entries::entry_at;
+use entries::entry_in;
 
 fn put_word(out: &mut [u8], at: usize, word: u32)
     requires { ⌜ at + 4 ≤ length (now out) ⌝ }
@@ -67,11 +68,27 @@ fn present(list: &[u8], place: usize) -> Entry
     }
 }
 
+// Group g of an edition 1 list that has its three entries, in its place.
+fn put_whole(list: &[u8], out: &mut [u8], g: usize)
+    requires { ⌜ (g < length (now list) / 15) × (g < length (now out) / 14) ⌝ }
+    ensures { λ _. ⌜ now (out .exit) ≡ sets (now (out .entry)) (14 * g) (packedGroup (now (list .entry)) g) ⌝ }
+{
+    let k = 3 * g;
+    let a = entry_in(list, k);
+    let b = entry_in(list, k + 1);
+    let c = entry_in(list, k + 2);
+    put_group(out, 14 * g, a, b, c);
+}
+
 // Group g of an edition 1 list, in its place.
 fn put_packed(list: &[u8], out: &mut [u8], g: usize)
     requires { ⌜ g < length (now out) / 14 ⌝ }
     ensures { λ _. ⌜ now (out .exit) ≡ sets (now (out .entry)) (14 * g) (packedGroup (now (list .entry)) g) ⌝ }
 {
+    if g < list.len() / 15 {
+        put_whole(list, out, g);
+        return;
+    }
     let k = 3 * g;
     let a = present(list, k);
     let b = present(list, k + 1);
