@@ -1,8 +1,6 @@
 // Entries out of list memory.
 ghost use mathlib.Core.Path.{_≡_};
-ghost use Prim.Native.Nat.{_/_, _<_};
-ghost use lib.ListN.{length};
-ghost use Rattle.entries.specs.Layout.{joined, entryOf, decodedOf};
+ghost use Rattle.entries.specs.Layout.{joined, decodedOf};
 
 // Register number, the three bits below it, and data.
 pub struct Entry {
@@ -30,27 +28,19 @@ fn wide(b: u8) -> u32
     b as u32
 }
 
-// The entry at a place in list memory, counted in entries.
-pub fn entry_in(list: &[u8], place: usize) -> Entry
-    requires { ⌜ place < length (now list) / 5 ⌝ }
-    ensures { λ r. ⌜ r ≡ entryOf (now (list .entry)) place ⌝ }
-{
-    let at = 5 * place;
-    let first = wide(list[at]);
-    let word = join(list[at + 1], list[at + 2], list[at + 3], list[at + 4]);
-    Entry {
-        register: first / 8,
-        spare: first % 8,
-        word,
-    }
-}
-
-// The entry at any place: past the end there is none.
+// The entry at a place of list memory, counted in entries.
 pub fn entry_at(list: &[u8], place: usize) -> Decoded
     ensures { λ r. ⌜ r ≡ decodedOf (now (list .entry)) place ⌝ }
 {
     if list.len() / 5 <= place {
         return Decoded::Nothing;
     }
-    Decoded::Whole(entry_in(list, place))
+    let at = 5 * place;
+    let first = wide(list[at]);
+    let word = join(list[at + 1], list[at + 2], list[at + 3], list[at + 4]);
+    Decoded::Whole(Entry {
+        register: first / 8,
+        spare: first % 8,
+        word,
+    })
 }

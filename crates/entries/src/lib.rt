@@ -6,7 +6,6 @@ mod legality;
 pub use decoding::Decoded;
 pub use decoding::Entry;
 pub use decoding::entry_at;
-pub use decoding::entry_in;
 pub use decoding::join;
 pub use fields::Command;
 pub use fields::PatternControl;

@@ -1,11 +1,11 @@
 -- What a conversion answers, test by test; what it says of a list that it is done; and the output that it leaves.
 -- Assumes nothing.
 use mathlib.Core.Path.{_≡_, refl, ap, sym, _∙_}
-use mathlib.Core.Bool.{Bool, true, false, not, cond, _&&_, _||_, false≢true}
+use mathlib.Core.Bool.{Bool, true, false, not, _&&_, _||_, false≢true}
 use mathlib.Core.List.{List, _++_}
 use Prim.Native.Nat.{ℕ, _+_, _*_, _/_, _%_, _≤_, _<_}
 use native.Mathlib.Omega.{arith}
-use borrow.Author.Tests.{eqb-true, eqb-false, eq-eqb, ne-eqb, lt-ltb, le-ltb, ltb-false, not-false}
+use borrow.Author.Tests.{eqb-true, eqb-false, eq-eqb, ne-eqb, lt-ltb, le-ltb, ltb-true, ltb-false, not-false}
 use lib.Dec.{eqb, ltb}
 use lib.ListN.{length, drop}
 use lib.Seq.{sets}
@@ -18,57 +18,76 @@ use Rattle.packing.specs.Groups.{groupOf, positionOf, countOf}
 use Rattle.packing.specs.Reports.{Report, report, reportOf}
 use Rattle.packing.specs.Conversions.{Found, failsAt, nowhere, firstNot, holds, refusedOr, judgedBy, legalityOf, packReport}
 use Rattle.packing.specs.Conversions.{passes, wellFormed, judgement, judgedFrom, lastHasOne, unpackReport}
-use Rattle.packing.specs.Conversions.{Converted, converted, outputBy, convertedTo, packOf, unpackOf}
+use Rattle.packing.specs.Conversions.{converted, convertedTo, packOf, unpackOf}
 use Rattle.packing.specs.declared.statuses.Status.{Status}
 use Rattle.packing.specs.declared.statuses.Status.the-variants.{Done, WrongSize, NoEntries, TooMany, IllegalEntry, Malformed}
 use Rattle.packing.proofs.Runs.{sets-front, length-strung}
 use Rattle.packing.proofs.Puts.{entry-length, group-length, packed-is}
 use Rattle.packing.proofs.Judges.{count-most}
 
+-- ---- room for n parts, as the code asks for it
+room-five : (room n : ℕ) → ltb (room / 5) n ≡ ltb room (5 * n)
+room-five room n =
+    by-cases (ltb (room / 5) n)
+    (λ t. let h = ltb-true (room / 5) n t in t ∙ sym (lt-ltb room (5 * n) (omega arith)))
+    (λ t. let h = ltb-false (room / 5) n t in t ∙ sym (le-ltb room (5 * n) (omega arith)))
+
+room-fourteen : (room n : ℕ) → ltb (room / 14) n ≡ ltb room (14 * n)
+room-fourteen room n =
+    by-cases (ltb (room / 14) n)
+    (λ t. let h = ltb-true (room / 14) n t in t ∙ sym (lt-ltb room (14 * n) (omega arith)))
+    (λ t. let h = ltb-false (room / 14) n t in t ∙ sym (le-ltb room (14 * n) (omega arith)))
+
 -- ---- test by test
 module _ (l : List ℕ) (room : ℕ) where
   abbrev pub packSize : Bool
   packSize = not (eqb (length l % 5) 0) || ltb (room / 14) (groupsFor (length l / 5))
 
+  pack-size : packSize ≡ (not (eqb (length l % 5) 0) || ltb room (14 * groupsFor (length l / 5)))
+  pack-size = ap (λ (t : Bool). not (eqb (length l % 5) 0) || t) (room-fourteen room (groupsFor (length l / 5)))
+
   pub pack-wrong : packSize ≡ true → report 2 0 0 ≡ packReport l room
   unfolding packReport
-  pack-wrong e = rw e
+  pack-wrong e = rw (sym pack-size ∙ e)
 
   pub pack-none : packSize ≡ false → length l ≡ 0 → report 3 0 0 ≡ packReport l room
   unfolding packReport
-  pack-none e h = rw (e, eq-eqb (length l) 0 h)
+  pack-none e h = rw (sym pack-size ∙ e, eq-eqb (length l) 0 h)
 
   pub pack-many : packSize ≡ false → (length l ≡ 0 → ⊥) → 4096 < length l / 5 → report 4 0 0 ≡ packReport l room
   unfolding packReport
-  pack-many e h k = rw (e, ne-eqb (length l) 0 h, lt-ltb 4096 (length l / 5) k)
+  pack-many e h k = rw (sym pack-size ∙ e, ne-eqb (length l) 0 h, lt-ltb 4096 (length l / 5) k)
 
   pub pack-judged : packSize ≡ false → (length l ≡ 0 → ⊥) → length l / 5 ≤ 4096 → (r : Report)
       → r ≡ legalityOf l → r ≡ packReport l room
   unfolding packReport
-  pack-judged e h k r q = rw (e, ne-eqb (length l) 0 h, le-ltb 4096 (length l / 5) k) q
+  pack-judged e h k r q = rw (sym pack-size ∙ e, ne-eqb (length l) 0 h, le-ltb 4096 (length l / 5) k) q
 
   -- n is the number of entries, as the code has counted them
   abbrev pub unpackSize : ℕ → Bool
   unpackSize n = not (eqb (length l % 14) 0) || ltb (room / 5) n
 
+  unpack-size : (n : ℕ) → n ≡ countOf l → unpackSize n ≡ (not (eqb (length l % 14) 0) || ltb room (5 * countOf l))
+  unpack-size n p = ap (λ (t : Bool). not (eqb (length l % 14) 0) || t) (room-five room n ∙ ap (λ (k : ℕ). ltb room (5 * k)) p)
+
   pub unpack-wrong : (n : ℕ) → n ≡ countOf l → unpackSize n ≡ true → report 2 0 0 ≡ unpackReport l room
   unfolding unpackReport
-  unpack-wrong n p e = rw (ap unpackSize (sym p) ∙ e)
+  unpack-wrong n p e = rw (sym (unpack-size n p) ∙ e)
 
   pub unpack-none : (n : ℕ) → n ≡ countOf l → unpackSize n ≡ false → length l ≡ 0 → report 3 0 0 ≡ unpackReport l room
   unfolding unpackReport
-  unpack-none n p e h = rw (ap unpackSize (sym p) ∙ e, eq-eqb (length l) 0 h)
+  unpack-none n p e h = rw (sym (unpack-size n p) ∙ e, eq-eqb (length l) 0 h)
 
   pub unpack-many : (n : ℕ) → n ≡ countOf l → unpackSize n ≡ false → (length l ≡ 0 → ⊥) → 4096 < n
       → report 4 0 0 ≡ unpackReport l room
   unfolding unpackReport
-  unpack-many n p e h k = rw (ap unpackSize (sym p) ∙ e, ne-eqb (length l) 0 h, lt-ltb 4096 (countOf l) (omega arith))
+  unpack-many n p e h k = rw (sym (unpack-size n p) ∙ e, ne-eqb (length l) 0 h, lt-ltb 4096 (countOf l) (omega arith))
 
   pub unpack-judged : (n : ℕ) → n ≡ countOf l → unpackSize n ≡ false → (length l ≡ 0 → ⊥) → n ≤ 4096 → (r : Report)
       → r ≡ judgedFrom l n (lastHasOne l n) 0 (length l / 14) → r ≡ unpackReport l room
   unfolding unpackReport
   unpack-judged n p e h k r q =
-      rw (ap unpackSize (sym p) ∙ e, ne-eqb (length l) 0 h, le-ltb 4096 (countOf l) (omega arith))
+      rw (sym (unpack-size n p) ∙ e, ne-eqb (length l) 0 h, le-ltb 4096 (countOf l) (omega arith))
       (q ∙ ap (λ (m : ℕ). judgedFrom l m (lastHasOne l m) 0 (length l / 14)) p)
 
 -- ---- what 'done' says
@@ -107,12 +126,12 @@ unfolding packReport
 packs l room n e =
     let s = length l / 5 in
     let part = not (eqb (length l % 5) 0) in
-    let short = ltb (room / 14) (groupsFor s) in
+    let short = ltb room (14 * groupsFor s) in
     let w = went (part || short) (eqb (length l) 0) (ltb 4096 s) (judgedBy s (illegalOf l)) n e in
     let j = legal-done s n (illegalOf l) (w .judged) in
     record {
       whole = eqb-true (length l % 5) 0 (not-false (eqb (length l % 5) 0) (or-none-left part short (w .size)));
-      fits = ltb-false (room / 14) (groupsFor s) (or-none-right part short (w .size));
+      fits = omega (arith, ltb-false room (14 * groupsFor s) (or-none-right part short (w .size)));
       some = eqb-false (length l) 0 (w .some);
       few = ltb-false 4096 s (w .few);
       legal = j .0;
@@ -145,12 +164,12 @@ unfolding unpackReport
 unpacks l room n e =
     let s = countOf l in
     let part = not (eqb (length l % 14) 0) in
-    let short = ltb (room / 5) s in
+    let short = ltb room (5 * s) in
     let w = went (part || short) (eqb (length l) 0) (ltb 4096 s) (judgement s (sound l) (failingOf l)) n e in
     let j = judged-done s n (sound l) (failingOf l) (w .judged) in
     record {
       whole = eqb-true (length l % 14) 0 (not-false (eqb (length l % 14) 0) (or-none-left part short (w .size)));
-      fits = ltb-false (room / 5) s (or-none-right part short (w .size));
+      fits = omega (arith, ltb-false room (5 * s) (or-none-right part short (w .size)));
       some = eqb-false (length l) 0 (w .some);
       few = ltb-false 4096 s (w .few);
       legal = j .0;

@@ -1,26 +1,28 @@
 -- Entries read back from their bytes, and bytes from their entries.
 -- Assumes nothing.
 use mathlib.Core.Path.{_≡_, refl, ap, sym, subst, _∙_}
-use mathlib.Core.Bool.{Bool, true, false, not, cond, _&&_, _||_}
-use mathlib.Core.List.{List, [], _∷_, _++_}
+use mathlib.Core.Bool.{Bool, cond}
+use mathlib.Core.List.{List}
 use Prim.Native.Nat.{ℕ, zero, suc, _+_, _-_, _*_, _/_, _%_, _≤_, _<_}
 use native.Mathlib.Omega.{arith}
 use borrow.Author.Tests.{eqb-true, eqb-false, ltb-true, ltb-false, lt-ltb, le-ltb}
-use lib.Dec.{eqb, ltb, leb}
+use lib.Dec.{eqb, ltb}
 use lib.ListN.{length, getD}
 use lib.Seq.{ext-getD}
 use Rattle.lemmas.proofs.Booleans.{by-cases}
 use Rattle.entries.specs.Layout.{joined, entryOf}
 use Rattle.entries.specs.declared.decoding.Entry.{Entry}
-use Rattle.packing.specs.Editions.{strung, wordBytes, headBytes, headOf, entryBytes, groupBytes, missing, orMissing, groupsFor, packedOf, listOf}
-use Rattle.packing.specs.Groups.{wordAt, headAt, groupOf, slotOf, positionOf, closingOf, countOf}
+use Rattle.packing.specs.Editions.{headOf, entryBytes, groupBytes, missing, orMissing, groupsFor}
+use Rattle.packing.specs.Editions.{packedOf, listOf}
+use Rattle.packing.specs.Groups.{wordAt, headAt, groupOf, positionOf, countOf}
 use Rattle.packing.specs.RoundTrip.{Bytes}
 use Rattle.packing.specs.declared.groups.Group.{Group}
 use Rattle.packing.proofs.Runs.{getD-strung}
 use Rattle.packing.proofs.Puts.{entry-length, group-length, position-first, position-second, position-third}
 use Rattle.packing.proofs.Judges.{closing-none, closing-one, closing-two, count-is}
 use Rattle.packing.proofs.Answers.{list-size, packed-size}
-use Rattle.packing.proofs.Words.{join-split, split-first, split-second, split-third, split-fourth, join-small, head-zero, head-first, head-second, head-third, again-first, again-second}
+use Rattle.packing.proofs.Words.{join-split, split-first, split-second, split-third, split-fourth, head-zero}
+use Rattle.packing.proofs.Words.{head-first, head-second, head-third, again-first, again-second}
 
 -- an entry whose fields fit their bits, the spare ones zero
 pub record Plain (e : Entry) : Type 0 where
@@ -54,7 +56,8 @@ by-three F a b c k =
 
 -- ---- edition 1: the entries of a list's bytes
 first-register : (r s : ℕ) → r < 32 → s ≡ 0 → (r % 32 * 8 + s % 8) / 8 ≡ r
-first-register r s h e = let a : r % 32 * 8 + s % 8 ≡ r * 8 = omega arith in let b : r * 8 / 8 ≡ r = omega arith in ap (λ (x : ℕ). x / 8) a ∙ b
+first-register r s h e =
+    let a : r % 32 * 8 + s % 8 ≡ r * 8 = omega arith in let b : r * 8 / 8 ≡ r = omega arith in ap (λ (x : ℕ). x / 8) a ∙ b
 
 first-spare : (r s : ℕ) → r < 32 → s ≡ 0 → (r % 32 * 8 + s % 8) % 8 ≡ s
 first-spare r s h e = omega arith
@@ -71,12 +74,14 @@ module _ (e : ℕ → Entry) (n : ℕ) where
   entry-back k h p =
       let x = e k in
       let start : 5 * k ≡ 5 * k + 0 = omega arith in
-      let a : getD listed (5 * k) 0 ≡ x .register % 32 * 8 + x .spare % 8 = ap (λ (i : ℕ). getD listed i 0) start ∙ list-byte k 0 h (omega arith) in
+      let a : getD listed (5 * k) 0 ≡ x .register % 32 * 8 + x .spare % 8 = ap (λ (i : ℕ). getD listed i 0) start
+      ∙ list-byte k 0 h (omega arith) in
       entry-same x (getD listed (5 * k) 0 / 8) (getD listed (5 * k) 0 % 8)
       (joined (getD listed (5 * k + 1) 0) (getD listed (5 * k + 2) 0) (getD listed (5 * k + 3) 0) (getD listed (5 * k + 4) 0))
       (ap (λ (i : ℕ). i / 8) a ∙ first-register (x .register) (x .spare) (p .register) (p .spare))
       (ap (λ (i : ℕ). i % 8) a ∙ first-spare (x .register) (x .spare) (p .register) (p .spare))
-      (join-same _ _ _ _ _ _ _ _ (list-byte k 1 h (omega arith)) (list-byte k 2 h (omega arith)) (list-byte k 3 h (omega arith)) (list-byte k 4 h (omega arith))
+      (join-same _ _ _ _ _ _ _ _ (list-byte k 1 h (omega arith)) (list-byte k 2 h (omega arith)) (list-byte k 3 h (omega arith))
+      (list-byte k 4 h (omega arith))
       ∙ join-split (x .word) (p .word))
 
 -- and the bytes of its entries
@@ -88,10 +93,18 @@ module _ (l : List ℕ) (b : Bytes l) where
   unfolding entryBytes
   entry-byte k zero h =
       let start : 5 * k ≡ 5 * k + 0 = omega arith in first-whole (getD l (5 * k) 0) (b (5 * k)) ∙ ap (λ (i : ℕ). getD l i 0) start
-  entry-byte k (suc zero) h = split-first (getD l (5 * k + 1) 0) (getD l (5 * k + 2) 0) (getD l (5 * k + 3) 0) (getD l (5 * k + 4) 0) (b (5 * k + 1)) (b (5 * k + 2)) (b (5 * k + 3)) (b (5 * k + 4))
-  entry-byte k (suc (suc zero)) h = split-second (getD l (5 * k + 1) 0) (getD l (5 * k + 2) 0) (getD l (5 * k + 3) 0) (getD l (5 * k + 4) 0) (b (5 * k + 1)) (b (5 * k + 2)) (b (5 * k + 3)) (b (5 * k + 4))
-  entry-byte k (suc (suc (suc zero))) h = split-third (getD l (5 * k + 1) 0) (getD l (5 * k + 2) 0) (getD l (5 * k + 3) 0) (getD l (5 * k + 4) 0) (b (5 * k + 1)) (b (5 * k + 2)) (b (5 * k + 3)) (b (5 * k + 4))
-  entry-byte k (suc (suc (suc (suc zero)))) h = split-fourth (getD l (5 * k + 1) 0) (getD l (5 * k + 2) 0) (getD l (5 * k + 3) 0) (getD l (5 * k + 4) 0) (b (5 * k + 1)) (b (5 * k + 2)) (b (5 * k + 3)) (b (5 * k + 4))
+  entry-byte k (suc zero) h =
+      split-first (getD l (5 * k + 1) 0) (getD l (5 * k + 2) 0) (getD l (5 * k + 3) 0) (getD l (5 * k + 4) 0) (b (5 * k + 1))
+      (b (5 * k + 2)) (b (5 * k + 3)) (b (5 * k + 4))
+  entry-byte k (suc (suc zero)) h =
+      split-second (getD l (5 * k + 1) 0) (getD l (5 * k + 2) 0) (getD l (5 * k + 3) 0) (getD l (5 * k + 4) 0) (b (5 * k + 1))
+      (b (5 * k + 2)) (b (5 * k + 3)) (b (5 * k + 4))
+  entry-byte k (suc (suc (suc zero))) h =
+      split-third (getD l (5 * k + 1) 0) (getD l (5 * k + 2) 0) (getD l (5 * k + 3) 0) (getD l (5 * k + 4) 0) (b (5 * k + 1))
+      (b (5 * k + 2)) (b (5 * k + 3)) (b (5 * k + 4))
+  entry-byte k (suc (suc (suc (suc zero)))) h =
+      split-fourth (getD l (5 * k + 1) 0) (getD l (5 * k + 2) 0) (getD l (5 * k + 3) 0) (getD l (5 * k + 4) 0) (b (5 * k + 1))
+      (b (5 * k + 2)) (b (5 * k + 3)) (b (5 * k + 4))
   entry-byte k (suc (suc (suc (suc (suc j))))) h = absurd (omega arith)
 
   pub list-whole : (n : ℕ) → length l ≡ 5 * n → listOf (entryOf l) n ≡ l
@@ -125,9 +138,11 @@ module _ (e : ℕ → Entry) (n : ℕ) (plain : (k : ℕ) → k < n → Plain (e
       by-cases (ltb k n) (λ t. let h = ltb-true k n t in subst Plain (sym (or-there e n k h)) (plain k h))
       (λ t. subst Plain (sym (or-missing e n k (ltb-false k n t))) missing-plain)
 
-  pub group-byte : (g j : ℕ) → g < groupsFor n → j < 14 → getD packing (14 * g + j) 0 ≡ getD (groupBytes (o (3 * g)) (o (3 * g + 1)) (o (3 * g + 2))) j 0
+  pub group-byte : (g j : ℕ) → g < groupsFor n → j < 14
+      → getD packing (14 * g + j) 0 ≡ getD (groupBytes (o (3 * g)) (o (3 * g + 1)) (o (3 * g + 2))) j 0
   group-byte g j h i =
-      getD-strung 14 (λ g. groupBytes (o (3 * g)) (o (3 * g + 1)) (o (3 * g + 2))) (λ g. group-length (o (3 * g)) (o (3 * g + 1)) (o (3 * g + 2))) (groupsFor n) g j h i
+      getD-strung 14 (λ g. groupBytes (o (3 * g)) (o (3 * g + 1)) (o (3 * g + 2)))
+      (λ g. group-length (o (3 * g)) (o (3 * g + 1)) (o (3 * g + 2))) (groupsFor n) g j h i
 
   module _ (g : ℕ) (h : g < groupsFor n) where
     abbrev h-of : ℕ
@@ -146,40 +161,55 @@ module _ (e : ℕ → Entry) (n : ℕ) (plain : (k : ℕ) → k < n → Plain (e
     word-first : wordAt packing (14 * g + 2) ≡ o (3 * g) .word
     unfolding groupBytes
     word-first =
-        join-same _ _ _ _ _ _ _ _ (byte-by (14 * g + 2) 2 (omega arith) (omega arith)) (byte-by (14 * g + 2 + 1) 3 (omega arith) (omega arith))
+        join-same _ _ _ _ _ _ _ _ (byte-by (14 * g + 2) 2 (omega arith) (omega arith))
+        (byte-by (14 * g + 2 + 1) 3 (omega arith) (omega arith))
         (byte-by (14 * g + 2 + 2) 4 (omega arith) (omega arith)) (byte-by (14 * g + 2 + 3) 5 (omega arith) (omega arith))
         ∙ join-split (o (3 * g) .word) (or-plain (3 * g) .word)
 
     word-second : wordAt packing (14 * g + 6) ≡ o (3 * g + 1) .word
     unfolding groupBytes
     word-second =
-        join-same _ _ _ _ _ _ _ _ (byte-by (14 * g + 6) 6 (omega arith) (omega arith)) (byte-by (14 * g + 6 + 1) 7 (omega arith) (omega arith))
+        join-same _ _ _ _ _ _ _ _ (byte-by (14 * g + 6) 6 (omega arith) (omega arith))
+        (byte-by (14 * g + 6 + 1) 7 (omega arith) (omega arith))
         (byte-by (14 * g + 6 + 2) 8 (omega arith) (omega arith)) (byte-by (14 * g + 6 + 3) 9 (omega arith) (omega arith))
         ∙ join-split (o (3 * g + 1) .word) (or-plain (3 * g + 1) .word)
 
     word-third : wordAt packing (14 * g + 10) ≡ o (3 * g + 2) .word
     unfolding groupBytes
     word-third =
-        join-same _ _ _ _ _ _ _ _ (byte-by (14 * g + 10) 10 (omega arith) (omega arith)) (byte-by (14 * g + 10 + 1) 11 (omega arith) (omega arith))
+        join-same _ _ _ _ _ _ _ _ (byte-by (14 * g + 10) 10 (omega arith) (omega arith))
+        (byte-by (14 * g + 10 + 1) 11 (omega arith) (omega arith))
         (byte-by (14 * g + 10 + 2) 12 (omega arith) (omega arith)) (byte-by (14 * g + 10 + 3) 13 (omega arith) (omega arith))
         ∙ join-split (o (3 * g + 2) .word) (or-plain (3 * g + 2) .word)
 
     pub zero-back : groupOf packing g .zero ≡ 0
-    zero-back = ap (λ (x : ℕ). x / 32768) head-back ∙ head-zero (o (3 * g) .register) (o (3 * g + 1) .register) (o (3 * g + 2) .register) (or-plain (3 * g) .register) (or-plain (3 * g + 1) .register) (or-plain (3 * g + 2) .register)
+    zero-back =
+        ap (λ (x : ℕ). x / 32768) head-back
+        ∙ head-zero (o (3 * g) .register) (o (3 * g + 1) .register) (o (3 * g + 2) .register) (or-plain (3 * g) .register)
+        (or-plain (3 * g + 1) .register) (or-plain (3 * g + 2) .register)
 
     pub first-back : groupOf packing g .first ≡ o (3 * g)
     first-back =
-        entry-same (o (3 * g)) (headAt packing g / 1024 % 32) 0 (wordAt packing (14 * g + 2)) (ap (λ (x : ℕ). x / 1024 % 32) head-back ∙ head-first (o (3 * g) .register) (o (3 * g + 1) .register) (o (3 * g + 2) .register) (or-plain (3 * g) .register) (or-plain (3 * g + 1) .register) (or-plain (3 * g + 2) .register))
+        entry-same (o (3 * g)) (headAt packing g / 1024 % 32) 0 (wordAt packing (14 * g + 2))
+        (ap (λ (x : ℕ). x / 1024 % 32) head-back
+        ∙ head-first (o (3 * g) .register) (o (3 * g + 1) .register) (o (3 * g + 2) .register) (or-plain (3 * g) .register)
+        (or-plain (3 * g + 1) .register) (or-plain (3 * g + 2) .register))
         (sym (or-plain (3 * g) .spare)) word-first
 
     pub second-back : groupOf packing g .second ≡ o (3 * g + 1)
     second-back =
-        entry-same (o (3 * g + 1)) (headAt packing g / 32 % 32) 0 (wordAt packing (14 * g + 6)) (ap (λ (x : ℕ). x / 32 % 32) head-back ∙ head-second (o (3 * g) .register) (o (3 * g + 1) .register) (o (3 * g + 2) .register) (or-plain (3 * g) .register) (or-plain (3 * g + 1) .register) (or-plain (3 * g + 2) .register))
+        entry-same (o (3 * g + 1)) (headAt packing g / 32 % 32) 0 (wordAt packing (14 * g + 6))
+        (ap (λ (x : ℕ). x / 32 % 32) head-back
+        ∙ head-second (o (3 * g) .register) (o (3 * g + 1) .register) (o (3 * g + 2) .register) (or-plain (3 * g) .register)
+        (or-plain (3 * g + 1) .register) (or-plain (3 * g + 2) .register))
         (sym (or-plain (3 * g + 1) .spare)) word-second
 
     pub third-back : groupOf packing g .third ≡ o (3 * g + 2)
     third-back =
-        entry-same (o (3 * g + 2)) (headAt packing g % 32) 0 (wordAt packing (14 * g + 10)) (ap (λ (x : ℕ). x % 32) head-back ∙ head-third (o (3 * g) .register) (o (3 * g + 1) .register) (o (3 * g + 2) .register) (or-plain (3 * g) .register) (or-plain (3 * g + 1) .register) (or-plain (3 * g + 2) .register))
+        entry-same (o (3 * g + 2)) (headAt packing g % 32) 0 (wordAt packing (14 * g + 10))
+        (ap (λ (x : ℕ). x % 32) head-back
+        ∙ head-third (o (3 * g) .register) (o (3 * g + 1) .register) (o (3 * g + 2) .register) (or-plain (3 * g) .register)
+        (or-plain (3 * g + 1) .register) (or-plain (3 * g + 2) .register))
         (sym (or-plain (3 * g + 2) .spare)) word-third
 
   pub position-back : (k : ℕ) → k < 3 * groupsFor n → positionOf packing k ≡ o k
@@ -224,19 +254,23 @@ module _ (e : ℕ → Entry) (n : ℕ) (plain : (k : ℕ) → k < n → Plain (e
 module _ (m : List ℕ) (b : Bytes m) where
   word-first-byte : (at i : ℕ) → at ≡ i → wordAt m at / 16777216 % 256 ≡ getD m i 0
   word-first-byte at i q =
-      split-first (getD m at 0) (getD m (at + 1) 0) (getD m (at + 2) 0) (getD m (at + 3) 0) (b at) (b (at + 1)) (b (at + 2)) (b (at + 3)) ∙ ap (λ (x : ℕ). getD m x 0) q
+      split-first (getD m at 0) (getD m (at + 1) 0) (getD m (at + 2) 0) (getD m (at + 3) 0) (b at) (b (at + 1)) (b (at + 2)) (b (at + 3))
+      ∙ ap (λ (x : ℕ). getD m x 0) q
 
   word-second-byte : (at i : ℕ) → at + 1 ≡ i → wordAt m at / 65536 % 256 ≡ getD m i 0
   word-second-byte at i q =
-      split-second (getD m at 0) (getD m (at + 1) 0) (getD m (at + 2) 0) (getD m (at + 3) 0) (b at) (b (at + 1)) (b (at + 2)) (b (at + 3)) ∙ ap (λ (x : ℕ). getD m x 0) q
+      split-second (getD m at 0) (getD m (at + 1) 0) (getD m (at + 2) 0) (getD m (at + 3) 0) (b at) (b (at + 1)) (b (at + 2))
+      (b (at + 3)) ∙ ap (λ (x : ℕ). getD m x 0) q
 
   word-third-byte : (at i : ℕ) → at + 2 ≡ i → wordAt m at / 256 % 256 ≡ getD m i 0
   word-third-byte at i q =
-      split-third (getD m at 0) (getD m (at + 1) 0) (getD m (at + 2) 0) (getD m (at + 3) 0) (b at) (b (at + 1)) (b (at + 2)) (b (at + 3)) ∙ ap (λ (x : ℕ). getD m x 0) q
+      split-third (getD m at 0) (getD m (at + 1) 0) (getD m (at + 2) 0) (getD m (at + 3) 0) (b at) (b (at + 1)) (b (at + 2)) (b (at + 3))
+      ∙ ap (λ (x : ℕ). getD m x 0) q
 
   word-fourth-byte : (at i : ℕ) → at + 3 ≡ i → wordAt m at % 256 ≡ getD m i 0
   word-fourth-byte at i q =
-      split-fourth (getD m at 0) (getD m (at + 1) 0) (getD m (at + 2) 0) (getD m (at + 3) 0) (b at) (b (at + 1)) (b (at + 2)) (b (at + 3)) ∙ ap (λ (x : ℕ). getD m x 0) q
+      split-fourth (getD m at 0) (getD m (at + 1) 0) (getD m (at + 2) 0) (getD m (at + 3) 0) (b at) (b (at + 1)) (b (at + 2))
+      (b (at + 3)) ∙ ap (λ (x : ℕ). getD m x 0) q
 
   module _ (g : ℕ) (z : groupOf m g .zero ≡ 0) where
     abbrev x : Group
@@ -256,8 +290,12 @@ module _ (m : List ℕ) (b : Bytes m) where
     group-bytes (suc (suc (suc (suc (suc (suc (suc zero))))))) h = word-second-byte (14 * g + 6) (14 * g + 7) (omega arith)
     group-bytes (suc (suc (suc (suc (suc (suc (suc (suc zero)))))))) h = word-third-byte (14 * g + 6) (14 * g + 8) (omega arith)
     group-bytes (suc (suc (suc (suc (suc (suc (suc (suc (suc zero))))))))) h = word-fourth-byte (14 * g + 6) (14 * g + 9) (omega arith)
-    group-bytes (suc (suc (suc (suc (suc (suc (suc (suc (suc (suc zero)))))))))) h = word-first-byte (14 * g + 10) (14 * g + 10) (omega arith)
-    group-bytes (suc (suc (suc (suc (suc (suc (suc (suc (suc (suc (suc zero))))))))))) h = word-second-byte (14 * g + 10) (14 * g + 11) (omega arith)
-    group-bytes (suc (suc (suc (suc (suc (suc (suc (suc (suc (suc (suc (suc zero)))))))))))) h = word-third-byte (14 * g + 10) (14 * g + 12) (omega arith)
-    group-bytes (suc (suc (suc (suc (suc (suc (suc (suc (suc (suc (suc (suc (suc zero))))))))))))) h = word-fourth-byte (14 * g + 10) (14 * g + 13) (omega arith)
+    group-bytes (suc (suc (suc (suc (suc (suc (suc (suc (suc (suc zero)))))))))) h =
+        word-first-byte (14 * g + 10) (14 * g + 10) (omega arith)
+    group-bytes (suc (suc (suc (suc (suc (suc (suc (suc (suc (suc (suc zero))))))))))) h =
+        word-second-byte (14 * g + 10) (14 * g + 11) (omega arith)
+    group-bytes (suc (suc (suc (suc (suc (suc (suc (suc (suc (suc (suc (suc zero)))))))))))) h =
+        word-third-byte (14 * g + 10) (14 * g + 12) (omega arith)
+    group-bytes (suc (suc (suc (suc (suc (suc (suc (suc (suc (suc (suc (suc (suc zero))))))))))))) h =
+        word-fourth-byte (14 * g + 10) (14 * g + 13) (omega arith)
     group-bytes (suc (suc (suc (suc (suc (suc (suc (suc (suc (suc (suc (suc (suc (suc j)))))))))))))) h = absurd (omega arith)

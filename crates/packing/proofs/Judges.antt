@@ -1,13 +1,13 @@
 -- An input judged step by step: edition 1 entry by entry, edition 2 group by group.
 -- Assumes nothing.
 use mathlib.Core.Path.{_≡_, refl, ap, sym, _∙_}
-use mathlib.Core.Bool.{Bool, true, false, not, cond, _&&_, _||_, false≢true}
+use mathlib.Core.Bool.{Bool, true, false, cond, _&&_, false≢true}
 use mathlib.Core.List.{List}
-use Prim.Native.Nat.{ℕ, zero, suc, _+_, _-_, _*_, _/_, _%_, _≤_, _<_}
+use Prim.Native.Nat.{ℕ, zero, suc, _+_, _-_, _*_, _/_, _≤_, _<_}
 use native.Mathlib.Numerals.{add-one}
 use native.Mathlib.Omega.{arith}
 use borrow.Author.Tests.{eqb-true, eq-eqb, ne-eqb, lt-ltb}
-use lib.Dec.{eqb, ltb, leb}
+use lib.Dec.{eqb}
 use lib.ListN.{length}
 use Rattle.lemmas.proofs.Booleans.{by-cases, and-left, and-right, or-by}
 use Rattle.entries.specs.Layout.{entryOf}
@@ -189,13 +189,15 @@ pub judged-end : (l : List ℕ) (count : ℕ) (sound : Bool) (g left : ℕ) → 
 unfolding firstNot holds
 judged-end l count sound g left e = rw e (ap (λ (t : Bool). cond t (report 0 0 (5 * count)) (report 10 0 0)) (and-true sound))
 
-pub judged-bad : (l : List ℕ) (count : ℕ) (sound : Bool) (g left m k : ℕ) (x : Group) → left ≡ m + 1 → x ≡ groupOf l g → k ≡ firstFailing x → k < 3
+pub judged-bad : (l : List ℕ) (count : ℕ) (sound : Bool) (g left m k : ℕ) (x : Group) → left ≡ m + 1 → x ≡ groupOf l g
+    → k ≡ firstFailing x → k < 3
     → judgedFrom l count sound g left ≡ report 6 (3 * g + k) 0
 judged-bad l count sound g left m k x e same is h =
     ap (λ (n : ℕ). judgedFrom l count sound g n) e
     ∙ ap (judgement count (sound && holds (λ j. wellFormed (groupOf l j) (3 * j) count) g (m + 1))) (search-stops l g m k x same is h)
 
-pub judged-next : (l : List ℕ) (count : ℕ) (sound : Bool) (g left m k : ℕ) (x : Group) (good : Bool) → left ≡ m + 1 → x ≡ groupOf l g → k ≡ firstFailing x → 3 ≤ k
+pub judged-next : (l : List ℕ) (count : ℕ) (sound : Bool) (g left m k : ℕ) (x : Group) (good : Bool) → left ≡ m + 1 → x ≡ groupOf l g
+    → k ≡ firstFailing x → 3 ≤ k
     → good ≡ wellFormed x (3 * g) count → judgedFrom l count sound g left ≡ judgedFrom l count (sound && good) (g + 1) m
 judged-next l count sound g left m k x good e same is h ok =
     let F : ℕ → Bool = λ j. wellFormed (groupOf l j) (3 * j) count in
@@ -213,14 +215,16 @@ module _ (l : List ℕ) (count : ℕ) (sound : Bool) (g : ℕ) where
   pub judged-start : g ≡ 0 → judgedFrom l count sound 0 (length l / 14) ≡ judgedFrom l count sound 0 (length l / 14 - 0)
   judged-start e = let h : length l / 14 ≡ length l / 14 - 0 = omega arith in ap (judgedFrom l count sound 0) h
 
-  pub judged-over : length l / 14 ≤ g → (t : Bool) → sound ≡ t → judgedFrom l count sound g rest ≡ cond t (report 0 0 (5 * count)) (report 10 0 0)
+  pub judged-over : length l / 14 ≤ g → (t : Bool) → sound ≡ t
+      → judgedFrom l count sound g rest ≡ cond t (report 0 0 (5 * count)) (report 10 0 0)
   judged-over h t e = judged-end l count sound g rest (omega arith) ∙ ap (λ (b : Bool). cond b (report 0 0 (5 * count)) (report 10 0 0)) e
 
   pub judged-stops : g < length l / 14 → (k : ℕ) (x : Group) → x ≡ groupOf l g → k ≡ firstFailing x → k < 3
       → judgedFrom l count sound g rest ≡ report 6 (3 * g + k) 0
   judged-stops h k x = judged-bad l count sound g rest (length l / 14 - (g + 1)) k x (omega arith)
 
-  pub judged-goes : g < length l / 14 → (k : ℕ) (x : Group) (good : Bool) → x ≡ groupOf l g → k ≡ firstFailing x → 3 ≤ k → good ≡ wellFormed x (3 * g) count
+  pub judged-goes : g < length l / 14 → (k : ℕ) (x : Group) (good : Bool) → x ≡ groupOf l g → k ≡ firstFailing x → 3 ≤ k
+      → good ≡ wellFormed x (3 * g) count
       → judgedFrom l count sound g rest ≡ judgedFrom l count (sound && good) (g + 1) (length l / 14 - (g + 1))
   judged-goes h k x good = judged-next l count sound g rest (length l / 14 - (g + 1)) k x good (omega arith)
 
@@ -266,7 +270,8 @@ module _ (x : Group) (h : fullGroup x ≡ true) where
   full-formed : (place count : ℕ) → place + 2 < count → true ≡ wellFormed x place count
   full-formed place count k =
       sym
-      (four-all (eqb (x .zero) 0) (placed (x .first) place count) (placed (x .second) (place + 1) count) (placed (x .third) (place + 2) count)
+      (four-all (eqb (x .zero) 0) (placed (x .first) place count) (placed (x .second) (place + 1) count)
+      (placed (x .third) (place + 2) count)
       (four .0) (legal-placed (x .first) place count (omega arith) (four .1))
       (legal-placed (x .second) (place + 1) count (omega arith) (four .2)) (legal-placed (x .third) (place + 2) count k (four .3)))
 
@@ -299,7 +304,8 @@ module _ (l : List ℕ) (count : ℕ) (sound : Bool) where
 
   one-full : (g : ℕ) → g < length l / 14 → 3 * g + 2 < count → fullAt l g ≡ true → from g ≡ from (g + 1)
   one-full g h k f =
-      judged-goes l count sound g h 3 (groupOf l g) true refl (full-passes (groupOf l g) f) (omega arith) (full-formed (groupOf l g) f (3 * g) count k)
+      judged-goes l count sound g h 3 (groupOf l g) true refl (full-passes (groupOf l g) f) (omega arith)
+      (full-formed (groupOf l g) f (3 * g) count k)
       ∙ ap (λ (t : Bool). judgedFrom l count t (g + 1) (length l / 14 - (g + 1))) (and-true sound)
 
   pub lead-judged : (g n : ℕ) → g + n ≤ length l / 14 → 3 * (g + n) ≤ count → from g ≡ from (leading (fullAt l) g n)

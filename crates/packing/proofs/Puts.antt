@@ -2,19 +2,20 @@
 -- Assumes nothing.
 use mathlib.Core.Path.{_≡_, refl, ap, sym, _∙_}
 use mathlib.Core.Bool.{Bool, true, false, cond}
-use mathlib.Core.List.{List, [], _∷_, _++_}
-use Prim.Native.Nat.{ℕ, zero, suc, _+_, _*_, _/_, _%_, _≤_, _<_}
+use mathlib.Core.List.{List, _++_}
+use Prim.Native.Nat.{ℕ, _+_, _*_, _/_, _%_, _<_}
 use native.Mathlib.Numerals.{add-one}
 use native.Mathlib.Omega.{arith}
-use borrow.Author.Tests.{lt-ltb, le-ltb}
 use lib.Dec.{ltb}
 use lib.ListN.{length, set}
 use lib.Seq.{sets}
 use Rattle.entries.specs.Layout.{entryOf, decodedOf}
 use Rattle.entries.specs.declared.decoding.Entry.{Entry}
 use Rattle.entries.specs.declared.decoding.Decoded.{Decoded}
+use Rattle.entries.specs.declared.decoding.Decoded.the-variants.{Whole, Nothing}
 use Rattle.entries.proofs.Decodes.{decoded-whole}
-use Rattle.packing.specs.Editions.{strung, wordBytes, headBytes, headOf, entryBytes, groupBytes, wholeOr, presentOf, orMissing, packedGroup, packedOf, listOf, groupsFor}
+use Rattle.packing.specs.Editions.{strung, wordBytes, headBytes, headOf, entryBytes, groupBytes, missing, wholeOr, presentOf}
+use Rattle.packing.specs.Editions.{orMissing, packedGroup, packedOf, groupsFor}
 use Rattle.packing.specs.Groups.{groupOf, slotOf, positionOf}
 use Rattle.packing.specs.declared.groups.Group.{Group}
 use Rattle.packing.proofs.Runs.{sets-then, strung-more, strung-agree}
@@ -29,7 +30,9 @@ pub group-put : (l h p q r : List ℕ) (at head : ℕ) (a b c : Entry) → head 
     → r ≡ sets q (at + 10) (wordBytes (c .word)) → r ≡ sets l at (groupBytes a b c)
 unfolding groupBytes
 group-put l h p q r at head a b c e u v w x =
-    sets-then (headBytes (headOf (a .register) (b .register) (c .register))) (wordBytes (a .word) ++ (wordBytes (b .word) ++ wordBytes (c .word))) l h r at (at + 2) (omega arith) (u ∙ ap (λ (k : ℕ). sets l at (headBytes k)) e)
+    sets-then (headBytes (headOf (a .register) (b .register) (c .register)))
+    (wordBytes (a .word) ++ (wordBytes (b .word) ++ wordBytes (c .word))) l h r at (at + 2) (omega arith)
+    (u ∙ ap (λ (k : ℕ). sets l at (headBytes k)) e)
     (sets-then (wordBytes (a .word)) (wordBytes (b .word) ++ wordBytes (c .word)) h p r (at + 2) (at + 6) (omega arith) v
     (sets-then (wordBytes (b .word)) (wordBytes (c .word)) p q r (at + 6) (at + 10) (omega arith) w x))
 
@@ -59,13 +62,14 @@ group-length a b c = refl
 pub groups-more : (list l m n : List ℕ) (g : ℕ) → m ≡ sets l 0 (strung (packedGroup list) g) → n ≡ sets m (14 * g) (packedGroup list g)
     → n ≡ sets l 0 (strung (packedGroup list) (g + 1))
 groups-more list l m n g p q =
-    strung-more 14 (packedGroup list) (λ k. group-length (presentOf list (3 * k)) (presentOf list (3 * k + 1)) (presentOf list (3 * k + 2))) l m n (14 * g) g refl p q
+    strung-more 14 (packedGroup list)
+    (λ k. group-length (presentOf list (3 * k)) (presentOf list (3 * k + 1)) (presentOf list (3 * k + 2))) l m n (14 * g) g refl p q
 
 pub present-is : (l : List ℕ) (k : ℕ) → presentOf l k ≡ orMissing (entryOf l) (length l / 5) k
 unfolding decodedOf
 present-is l k = whole (ltb k (length l / 5))
   where
-    whole : (t : Bool) → wholeOr (cond t (Rattle.entries.specs.declared.decoding.Decoded.the-variants.Whole (entryOf l k)) Rattle.entries.specs.declared.decoding.Decoded.the-variants.Nothing) ≡ cond t (entryOf l k) (Rattle.packing.specs.Editions.missing)
+    whole : (t : Bool) → wholeOr (cond t (Whole (entryOf l k)) Nothing) ≡ cond t (entryOf l k) missing
     whole true = refl
     whole false = refl
 
@@ -97,32 +101,40 @@ module _ (list l : List ℕ) where
   abbrev bytes : ℕ → List ℕ
   bytes k = entryBytes (positionOf list k)
 
-  one-more : (m n : List ℕ) (at k : ℕ) (e : Entry) → at ≡ 5 * k → positionOf list k ≡ e → m ≡ sets l 0 (strung bytes k) → n ≡ sets m at (entryBytes e)
+  one-more : (m n : List ℕ) (at k : ℕ) (e : Entry) → at ≡ 5 * k → positionOf list k ≡ e → m ≡ sets l 0 (strung bytes k)
+      → n ≡ sets m at (entryBytes e)
       → n ≡ sets l 0 (strung bytes (k + 1))
   one-more m n at k e p q r s =
       strung-more 5 bytes (λ i. entry-length (positionOf list i)) l m n at k p r (s ∙ ap (λ (x : Entry). sets m at (entryBytes x)) (sym q))
 
-  pub one-put : (g : ℕ) (x : Group) (m n : List ℕ) → x ≡ groupOf list g → m ≡ sets l 0 (strung bytes (3 * g)) → n ≡ sets m (15 * g) (entryBytes (x .first))
+  pub one-put : (g : ℕ) (x : Group) (m n : List ℕ) → x ≡ groupOf list g → m ≡ sets l 0 (strung bytes (3 * g))
+      → n ≡ sets m (15 * g) (entryBytes (x .first))
       → n ≡ sets l 0 (strung bytes (3 * g + 1))
   one-put g x m n e p q =
       one-more m n (15 * g) (3 * g) (x .first) (omega arith) (position-first list g ∙ ap (λ (y : Group). y .first) (sym e)) p q
 
-  pub two-put : (g : ℕ) (x : Group) (m n o : List ℕ) → x ≡ groupOf list g → m ≡ sets l 0 (strung bytes (3 * g)) → n ≡ sets m (15 * g) (entryBytes (x .first))
+  pub two-put : (g : ℕ) (x : Group) (m n o : List ℕ) → x ≡ groupOf list g → m ≡ sets l 0 (strung bytes (3 * g))
+      → n ≡ sets m (15 * g) (entryBytes (x .first))
       → o ≡ sets n (15 * g + 5) (entryBytes (x .second)) → o ≡ sets l 0 (strung bytes (3 * g + 2))
   two-put g x m n o e p q r =
       let k : 3 * g + 1 + 1 ≡ 3 * g + 2 = omega arith in
-      one-more n o (15 * g + 5) (3 * g + 1) (x .second) (omega arith) (position-second list g ∙ ap (λ (y : Group). y .second) (sym e)) (one-put g x m n e p q) r
+      one-more n o (15 * g + 5) (3 * g + 1) (x .second) (omega arith) (position-second list g ∙ ap (λ (y : Group). y .second) (sym e))
+      (one-put g x m n e p q) r
       ∙ ap (λ (i : ℕ). sets l 0 (strung bytes i)) k
 
-  pub three-put : (g : ℕ) (x : Group) (m n o t : List ℕ) → x ≡ groupOf list g → m ≡ sets l 0 (strung bytes (3 * g)) → n ≡ sets m (15 * g) (entryBytes (x .first))
-      → o ≡ sets n (15 * g + 5) (entryBytes (x .second)) → t ≡ sets o (15 * g + 10) (entryBytes (x .third)) → t ≡ sets l 0 (strung bytes (3 * (g + 1)))
+  pub three-put : (g : ℕ) (x : Group) (m n o t : List ℕ) → x ≡ groupOf list g → m ≡ sets l 0 (strung bytes (3 * g))
+      → n ≡ sets m (15 * g) (entryBytes (x .first))
+      → o ≡ sets n (15 * g + 5) (entryBytes (x .second)) → t ≡ sets o (15 * g + 10) (entryBytes (x .third))
+      → t ≡ sets l 0 (strung bytes (3 * (g + 1)))
   three-put g x m n o t e p q r s =
       let k : 3 * g + 2 + 1 ≡ 3 * (g + 1) = omega arith in
-      one-more o t (15 * g + 10) (3 * g + 2) (x .third) (omega arith) (position-third list g ∙ ap (λ (y : Group). y .third) (sym e)) (two-put g x m n o e p q r) s
+      one-more o t (15 * g + 10) (3 * g + 2) (x .third) (omega arith) (position-third list g ∙ ap (λ (y : Group). y .third) (sym e))
+      (two-put g x m n o e p q r) s
       ∙ ap (λ (i : ℕ). sets l 0 (strung bytes i)) k
 
   pub all-put : (m : List ℕ) (k n : ℕ) → k ≡ n → m ≡ sets l 0 (strung bytes k) → m ≡ sets l 0 (strung bytes n)
   all-put m k n e p = p ∙ ap (λ (i : ℕ). sets l 0 (strung bytes i)) e
 
-pub groups-all : (list l m : List ℕ) (k n : ℕ) → k ≡ n → m ≡ sets l 0 (strung (packedGroup list) k) → m ≡ sets l 0 (strung (packedGroup list) n)
+pub groups-all : (list l m : List ℕ) (k n : ℕ) → k ≡ n → m ≡ sets l 0 (strung (packedGroup list) k)
+    → m ≡ sets l 0 (strung (packedGroup list) n)
 groups-all list l m k n e p = p ∙ ap (λ (i : ℕ). sets l 0 (strung (packedGroup list) i)) e

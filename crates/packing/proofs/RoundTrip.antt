@@ -1,35 +1,40 @@
 -- A legal list comes back, and every accepted edition 2 file is the one its list gives.
 -- Assumes nothing.
 use mathlib.Core.Path.{_≡_, refl, ap, sym, subst, _∙_}
-use mathlib.Core.Bool.{Bool, true, false, not, cond, _&&_, _||_, false≢true}
-use mathlib.Core.List.{List, [], _∷_, _++_}
-use Prim.Native.Nat.{ℕ, zero, suc, _+_, _-_, _*_, _/_, _%_, _≤_, _<_}
+use mathlib.Core.Bool.{Bool, true, false, cond, false≢true}
+use mathlib.Core.List.{List}
+use Prim.Native.Nat.{ℕ, zero, _+_, _-_, _*_, _/_, _%_, _≤_, _<_}
 use native.Mathlib.Omega.{arith}
 use borrow.Author.Tests.{eqb-true, eqb-false, eq-eqb, ne-eqb, ltb-true, ltb-false, lt-ltb, le-ltb, le-leb, lt-leb}
-use lib.Dec.{eqb, ltb, leb}
-use lib.ListN.{length, getD, drop}
+use lib.Dec.{eqb, ltb}
+use lib.ListN.{length, getD}
 use lib.Seq.{ext-getD}
-use Rattle.lemmas.proofs.Booleans.{by-cases, and-left, and-right, and-both, or-by, or-first}
-use Rattle.entries.specs.Layout.{joined, entryOf}
-use Rattle.entries.specs.Legality.{dataLegal, entryLegal}
+use Rattle.lemmas.proofs.Booleans.{by-cases, and-left, and-right, and-both, or-first}
+use Rattle.entries.specs.Layout.{entryOf}
+use Rattle.entries.specs.Legality.{entryLegal}
 use Rattle.entries.specs.declared.decoding.Entry.{Entry}
-use Rattle.packing.specs.Editions.{strung, entryBytes, groupBytes, missing, orMissing, groupsFor, packedOf, listOf}
+use Rattle.packing.specs.Editions.{entryBytes, groupBytes, missing, orMissing, groupsFor, packedOf, listOf}
 use Rattle.packing.specs.Groups.{wordAt, headAt, groupOf, positionOf, closingOf, countOf}
-use Rattle.packing.specs.Reports.{Report, report}
-use Rattle.packing.specs.Conversions.{nowhere, holds, judgedBy, packReport, passes, placed, wellFormed, judgement, lastHasOne, unpackReport}
+use Rattle.packing.specs.Reports.{report}
+use Rattle.packing.specs.Conversions.{nowhere, holds, judgedBy, packReport, passes, placed, wellFormed, judgement, lastHasOne}
+use Rattle.packing.specs.Conversions.{unpackReport}
 use Rattle.packing.specs.Conversions.{convertedTo, packOf, unpackOf}
 use Rattle.packing.specs.RoundTrip.{Bytes, LegalList, done, ComesBack, OneForm, Sizes}
 use Rattle.packing.specs.declared.groups.Group.{Group}
 use Rattle.packing.proofs.Runs.{strung-agree}
 use Rattle.packing.proofs.Puts.{position-first, position-second, position-third}
-use Rattle.packing.proofs.Judges.{closing-none, closing-one, count-is, count-most, legal-real, legal-spare, legal-passes, legal-placed, all-four, four-all}
-use Rattle.packing.proofs.Answers.{packSize, pack-judged, unpackSize, unpack-judged, illegalOf, sound, failingOf, Unpacks, unpacks, list-size, packed-size}
+use Rattle.packing.proofs.Judges.{closing-none, closing-one, count-is, count-most, legal-real, legal-spare, legal-passes}
+use Rattle.packing.proofs.Judges.{legal-placed, all-four, four-all}
+use Rattle.packing.proofs.Answers.{packSize, pack-judged, unpackSize, unpack-judged, illegalOf, sound, failingOf, Unpacks}
+use Rattle.packing.proofs.Answers.{unpacks, list-size, packed-size}
 use Rattle.packing.proofs.Words.{join-small}
 use Rattle.packing.proofs.Searches.{none-found, all-pass, all-hold, each-holds}
-use Rattle.packing.proofs.Back.{Plain, entry-same, by-three, entry-back, list-whole, or-there, or-missing, group-byte, zero-back, first-back, second-back, third-back, position-back, count-back, group-bytes}
+use Rattle.packing.proofs.Back.{Plain, entry-same, by-three, entry-back, list-whole, or-there, or-missing, group-byte, zero-back}
+use Rattle.packing.proofs.Back.{first-back, second-back, third-back, position-back, count-back, group-bytes}
 
 -- ---- a list whose entries are legal packs
-module _ (l : List ℕ) (n : ℕ) (whole : length l ≡ 5 * n) (some : 0 < n) (few : n ≤ 4096) (legal : (k : ℕ) → k < n → entryLegal (entryOf l k) ≡ true) where
+module _ (l : List ℕ) (n : ℕ) (whole : length l ≡ 5 * n) (some : 0 < n) (few : n ≤ 4096)
+    (legal : (k : ℕ) → k < n → entryLegal (entryOf l k) ≡ true) where
   count-is-n : length l / 5 ≡ n
   count-is-n = omega arith
 
@@ -39,8 +44,10 @@ module _ (l : List ℕ) (n : ℕ) (whole : length l ≡ 5 * n) (some : 0 < n) (f
   packs-to : (room : ℕ) → groupsFor n ≤ room / 14 → packReport l room ≡ report 0 0 (14 * groupsFor n)
   packs-to room h =
       let q = count-is-n in
-      let size : packSize l room ≡ false = rw (eq-eqb (length l % 5) 0 (omega arith), le-ltb (room / 14) (groupsFor (length l / 5)) (omega arith)) in
-      sym (pack-judged l room size (λ e. omega arith) (omega arith) (report 0 0 (14 * groupsFor (length l / 5))) (sym (ap (judgedBy (length l / 5)) none)))
+      let size : packSize l room ≡ false =
+      rw (eq-eqb (length l % 5) 0 (omega arith), le-ltb (room / 14) (groupsFor (length l / 5)) (omega arith)) in
+      sym (pack-judged l room size (λ e. omega arith) (omega arith) (report 0 0 (14 * groupsFor (length l / 5)))
+      (sym (ap (judgedBy (length l / 5)) none)))
       ∙ ap (λ (k : ℕ). report 0 0 (14 * groupsFor k)) q
 
   pub pack-gives : (out : List ℕ) → groupsFor n ≤ length out / 14
@@ -51,7 +58,8 @@ module _ (l : List ℕ) (n : ℕ) (whole : length l ≡ 5 * n) (some : 0 < n) (f
       ∙ ap (λ (k : ℕ). done (packedOf (entryOf l) k) (14 * groupsFor n) out) count-is-n
 
 -- ---- an input that passes every test unpacks
-pub unpacks-to : (m : List ℕ) (room : ℕ) → length m % 14 ≡ 0 → countOf m ≤ room / 5 → (length m ≡ 0 → ⊥) → countOf m ≤ 4096 → failingOf m ≡ nowhere → sound m ≡ true
+pub unpacks-to : (m : List ℕ) (room : ℕ) → length m % 14 ≡ 0 → countOf m ≤ room / 5 → (length m ≡ 0 → ⊥) → countOf m ≤ 4096
+    → failingOf m ≡ nowhere → sound m ≡ true
     → unpackReport m room ≡ report 0 0 (5 * countOf m)
 unpacks-to m room whole fits some few legal formed =
     let size : unpackSize m room (countOf m) ≡ false = rw (eq-eqb (length m % 14) 0 whole, le-ltb (room / 5) (countOf m) fits) in
@@ -69,7 +77,8 @@ module _ (l : List ℕ) (n : ℕ) (ok : LegalList l n) where
       record {
         register = omega (arith, ok .bytes (5 * k));
         spare = legal-spare (e k) (ok .legal k h);
-        word = join-small (getD l (5 * k + 1) 0) (getD l (5 * k + 2) 0) (getD l (5 * k + 3) 0) (getD l (5 * k + 4) 0) (ok .bytes (5 * k + 1)) (ok .bytes (5 * k + 2)) (ok .bytes (5 * k + 3)) (ok .bytes (5 * k + 4));
+        word = join-small (getD l (5 * k + 1) 0) (getD l (5 * k + 2) 0) (getD l (5 * k + 3) 0) (getD l (5 * k + 4) 0)
+            (ok .bytes (5 * k + 1)) (ok .bytes (5 * k + 2)) (ok .bytes (5 * k + 3)) (ok .bytes (5 * k + 4));
       }
 
   real : (k : ℕ) → k < n → e k .register ≡ 31 → ⊥
@@ -108,7 +117,8 @@ module _ (l : List ℕ) (n : ℕ) (ok : LegalList l n) where
   forming : (g : ℕ) → g < groupsFor n → wellFormed (groupOf m g) (3 * g) (countOf m) ≡ true
   forming g h =
       let x = groupOf m g in
-      four-all (eqb (x .zero) 0) (placed (x .first) (3 * g) (countOf m)) (placed (x .second) (3 * g + 1) (countOf m)) (placed (x .third) (3 * g + 2) (countOf m))
+      four-all (eqb (x .zero) 0) (placed (x .first) (3 * g) (countOf m)) (placed (x .second) (3 * g + 1) (countOf m))
+      (placed (x .third) (3 * g + 2) (countOf m))
       (eq-eqb (x .zero) 0 (zero-back e n plain g h)) (placing-at (x .first) (3 * g) (first-back e n plain g h))
       (placing-at (x .second) (3 * g + 1) (second-back e n plain g h)) (placing-at (x .third) (3 * g + 2) (third-back e n plain g h))
 
@@ -133,13 +143,15 @@ module _ (l : List ℕ) (n : ℕ) (ok : LegalList l n) where
       let c = count in
       let some = ok .some in
       let few = ok .few in
-      unpacks-to m room (omega arith) (omega arith) (λ z. omega arith) (omega arith) all-legal all-sound ∙ ap (λ (k : ℕ). report 0 0 (5 * k)) c
+      unpacks-to m room (omega arith) (omega arith) (λ z. omega arith) (omega arith) all-legal all-sound
+      ∙ ap (λ (k : ℕ). report 0 0 (5 * k)) c
 
   same-list : listOf (positionOf m) (countOf m) ≡ l
   same-list =
       let some = ok .some in
       ap (listOf (positionOf m)) count
-      ∙ strung-agree (λ k. entryBytes (positionOf m k)) (λ k. entryBytes (e k)) n (λ k h. ap entryBytes (position-back e n plain k (omega arith) ∙ or-there e n k h))
+      ∙ strung-agree (λ k. entryBytes (positionOf m k)) (λ k. entryBytes (e k)) n
+      (λ k h. ap entryBytes (position-back e n plain k (omega arith) ∙ or-there e n k h))
       ∙ list-whole l (ok .bytes) n (ok .whole)
 
   back-gives : (back : List ℕ) → n ≤ length back / 5 → unpackOf m back ≡ done l (5 * n) back
@@ -150,8 +162,8 @@ module _ (l : List ℕ) (n : ℕ) (ok : LegalList l n) where
 
 pub comes-back : ComesBack
 comes-back l n ok out back h k = (
-  pack-gives l n (ok .whole) (ok .some) (ok .few) (ok .legal) out h,
-  back-gives l n ok back k,
+  pack-gives l n (ok .whole) (ok .some) (ok .few) (ok .legal) out (omega arith),
+  back-gives l n ok back (omega arith),
 )
 
 -- ---- every accepted file is the one its list gives
@@ -175,7 +187,8 @@ module _ (m : List ℕ) where
       record {
         register = h;
         spare = refl;
-        word = join-small (getD m at 0) (getD m (at + 1) 0) (getD m (at + 2) 0) (getD m (at + 3) 0) (b at) (b (at + 1)) (b (at + 2)) (b (at + 3));
+        word = join-small (getD m at 0) (getD m (at + 1) 0) (getD m (at + 2) 0) (getD m (at + 3) 0) (b at) (b (at + 1)) (b (at + 2))
+            (b (at + 3));
       }
 
   position-plain : Bytes m → (p : ℕ) → Plain (positionOf m p)
@@ -199,12 +212,16 @@ module _ (m : List ℕ) (b : Bytes m) (room written : ℕ) (u : Unpacks m room w
   near = ltb-true (3 * groups) (n + 3) (and-left (ltb (3 * groups) (n + 3)) (holds formedAt 0 groups) (u .formed))
 
   formed-at : (g : ℕ) → g < groups → formedAt g ≡ true
-  formed-at g h = each-holds formedAt 0 groups (and-right (ltb (3 * groups) (n + 3)) (holds formedAt 0 groups) (u .formed)) g (omega arith) (omega arith)
+  formed-at g h =
+      each-holds formedAt 0 groups (and-right (ltb (3 * groups) (n + 3)) (holds formedAt 0 groups) (u .formed)) g (omega arith)
+      (omega arith)
 
   abbrev parts : (g : ℕ) → g < groups
-      → (eqb (groupOf m g .zero) 0 ≡ true) × (placed (groupOf m g .first) (3 * g) n ≡ true) × (placed (groupOf m g .second) (3 * g + 1) n ≡ true) × (placed (groupOf m g .third) (3 * g + 2) n ≡ true)
+      → (eqb (groupOf m g .zero) 0 ≡ true) × (placed (groupOf m g .first) (3 * g) n ≡ true)
+      × (placed (groupOf m g .second) (3 * g + 1) n ≡ true) × (placed (groupOf m g .third) (3 * g + 2) n ≡ true)
   parts g h =
-      all-four (eqb (groupOf m g .zero) 0) (placed (groupOf m g .first) (3 * g) n) (placed (groupOf m g .second) (3 * g + 1) n) (placed (groupOf m g .third) (3 * g + 2) n) (formed-at g h)
+      all-four (eqb (groupOf m g .zero) 0) (placed (groupOf m g .first) (3 * g) n) (placed (groupOf m g .second) (3 * g + 1) n)
+      (placed (groupOf m g .third) (3 * g + 2) n) (formed-at g h)
 
   zero-bit : (g : ℕ) → g < groups → groupOf m g .zero ≡ 0
   zero-bit g h = eqb-true (groupOf m g .zero) 0 (parts g h .0)
@@ -264,7 +281,8 @@ module _ (m : List ℕ) (b : Bytes m) (room written : ℕ) (u : Unpacks m room w
   missing-at : (p : ℕ) → n ≤ p → p < 3 * groups → positionOf m p ≡ missing
   missing-at p h k =
       let y = positionOf m p in
-      entry-same missing (y .register) (y .spare) (y .word) (closed (groups - 1) refl any-groups p h k) (position-spare m p) (placed-out y p n h (placed-at p k))
+      entry-same missing (y .register) (y .spare) (y .word) (closed (groups - 1) refl any-groups p h k) (position-spare m p)
+      (placed-out y p n h (placed-at p k))
 
   whole-or : (p : ℕ) → p < 3 * groups → orMissing (positionOf m) n p ≡ positionOf m p
   whole-or p k =
@@ -295,7 +313,8 @@ module _ (m : List ℕ) (b : Bytes m) (room written : ℕ) (u : Unpacks m room w
       ext-getD 0 (packedOf (positionOf m) n) m (size ∙ len)
       (λ i h.
       let q : 14 * (i / 14) + i % 14 ≡ i = omega arith in
-      ap (λ (k : ℕ). getD (packedOf (positionOf m) n) k 0) (sym q) ∙ bytes-at (i / 14) (i % 14) (omega arith) (omega arith) ∙ ap (λ (k : ℕ). getD m k 0) q)
+      ap (λ (k : ℕ). getD (packedOf (positionOf m) n) k 0) (sym q) ∙ bytes-at (i / 14) (i % 14) (omega arith) (omega arith)
+      ∙ ap (λ (k : ℕ). getD m k 0) q)
 
   abbrev list : List ℕ
   list = listOf (positionOf m) n
@@ -313,7 +332,8 @@ module _ (m : List ℕ) (b : Bytes m) (room written : ℕ) (u : Unpacks m room w
   same-packed =
       let o = orMissing (entryOf list) n in
       let r = orMissing (positionOf m) n in
-      strung-agree (λ g. groupBytes (o (3 * g)) (o (3 * g + 1)) (o (3 * g + 2))) (λ g. groupBytes (r (3 * g)) (r (3 * g + 1)) (r (3 * g + 2))) (groupsFor n)
+      strung-agree (λ g. groupBytes (o (3 * g)) (o (3 * g + 1)) (o (3 * g + 2)))
+      (λ g. groupBytes (r (3 * g)) (r (3 * g + 1)) (r (3 * g + 2))) (groupsFor n)
       (λ g h.
       ap (λ (s : Entry). groupBytes s (o (3 * g + 1)) (o (3 * g + 2))) (same-or (3 * g))
       ∙ ap (λ (s : Entry). groupBytes (r (3 * g)) s (o (3 * g + 2))) (same-or (3 * g + 1))
@@ -325,7 +345,8 @@ module _ (m : List ℕ) (b : Bytes m) (room written : ℕ) (u : Unpacks m room w
       let a = near in
       let s = any-groups in
       let len = length-is in
-      pack-gives list n (list-size (positionOf m) n) (omega arith) (u .few) (λ k i. ap entryLegal (read-back k i) ∙ legal-at k i) out (omega arith)
+      pack-gives list n (list-size (positionOf m) n) (omega arith) (u .few) (λ k i. ap entryLegal (read-back k i) ∙ legal-at k i) out
+      (omega arith)
       ∙ ap (λ (k : ℕ). done (packedOf (entryOf list) n) k out) len
       ∙ ap (λ (x : List ℕ). done x (length m) out) same-packed
 

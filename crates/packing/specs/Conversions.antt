@@ -42,7 +42,7 @@ legalityOf l = judgedBy (length l / 5) (firstNot (λ k. entryLegal (entryOf l k)
 unfoldable pub packReport : List ℕ → ℕ → Report
 packReport l room =
     let n = length l / 5 in
-    refusedOr (not (eqb (length l % 5) 0) || ltb (room / 14) (groupsFor n)) (eqb (length l) 0) (ltb 4096 n) (legalityOf l)
+    refusedOr (not (eqb (length l % 5) 0) || ltb room (14 * groupsFor n)) (eqb (length l) 0) (ltb 4096 n) (legalityOf l)
 
 -- ---- edition 2 to edition 1: "6 for an illegal entry (edition 2: 31s pass here, and a place counts three a group)"
 abbrev pub passes : Entry → Bool
@@ -72,11 +72,11 @@ judgedFrom l count sound g groups =
     judgement count (sound && holds (λ k. wellFormed (groupOf l k) (3 * k) count) g groups)
     (firstNot (λ p. passes (positionOf l p)) (3 * g) (3 * groups))
 
--- Three legal entries, of which none is a 31, and a zero bit: such a group is sound wherever it stands before the count. And how
--- many places a test holds at from p on, of n, before the first at which it fails: the place where that search ends.
+-- Three legal entries, of which none is a 31, and the zero bit zero: before the count such a group is sound.
 abbrev pub fullGroup : Group → Bool
 fullGroup x = eqb (x .zero) 0 && entryLegal (x .first) && entryLegal (x .second) && entryLegal (x .third)
 
+-- The first place, of n from p on, at which a test fails, or the one past them.
 unfoldable pub leading : (ℕ → Bool) → ℕ → ℕ → ℕ
 leading f p zero = p
 leading f p (suc n) = cond (f p) (leading f (suc p) n) p
@@ -88,7 +88,7 @@ lastHasOne l count = ltb (3 * (length l / 14)) (count + 3)
 unfoldable pub unpackReport : List ℕ → ℕ → Report
 unpackReport l room =
     let n = countOf l in
-    refusedOr (not (eqb (length l % 14) 0) || ltb (room / 5) n) (eqb (length l) 0) (ltb 4096 n)
+    refusedOr (not (eqb (length l % 14) 0) || ltb room (5 * n)) (eqb (length l) 0) (ltb 4096 n)
     (judgedFrom l n (lastHasOne l n) 0 (length l / 14))
 
 -- ---- the report, and the lent output after the call: (01, What the host hears) "Lent bytes that no rule writes stay, and in a

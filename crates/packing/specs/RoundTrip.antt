@@ -31,7 +31,7 @@ done new written out = record { report = report 0 0 written; output = new ++ dro
 -- They pack, and "come back the same", where both outputs have room.
 abbrev pub ComesBack : Type 0
 ComesBack =
-    (l : List ℕ) (n : ℕ) → LegalList l n → (out back : List ℕ) → groupsFor n ≤ length out / 14 → n ≤ length back / 5
+    (l : List ℕ) (n : ℕ) → LegalList l n → (out back : List ℕ) → 14 * groupsFor n ≤ length out → 5 * n ≤ length back
     → (packOf l out ≡ done (packedOf (entryOf l) n) (14 * groupsFor n) out)
     × (unpackOf (packedOf (entryOf l) n) back ≡ done l (5 * n) back)
 

@@ -3,13 +3,15 @@ ghost use mathlib.Core.Path.{_≡_};
 ghost use Prim.Native.Nat.{_+_, _*_, _/_, _<_, _≤_};
 ghost use lib.ListN.{length};
 ghost use lib.Seq.{sets};
-ghost use Rattle.packing.specs.Editions.{wordBytes, headOf, headBytes, entryBytes, groupBytes, strung, listOf, presentOf, packedGroup};
+ghost use Rattle.entries.specs.Layout.{entryOf};
+ghost use Rattle.packing.specs.Editions.{wordBytes, headOf, headBytes, entryBytes, groupBytes, strung, listOf, presentOf};
+ghost use Rattle.packing.specs.Editions.{packedGroup};
 ghost use Rattle.packing.specs.Groups.{positionOf};
 use crate::groups::group_at;
 use entries::Decoded;
 use entries::Entry;
 use entries::entry_at;
-use entries::entry_in;
+use entries::join;
 
 fn put_word(out: &mut [u8], at: usize, word: u32)
     requires { ⌜ at + 4 ≤ length (now out) ⌝ }
@@ -65,6 +67,27 @@ fn present(list: &[u8], place: usize) -> Entry
             spare: 0,
             word: 0,
         },
+    }
+}
+
+fn wide(b: u8) -> u32
+    ensures { λ r. ⌜ r ≡ b ⌝ }
+{
+    b as u32
+}
+
+// The entry of an edition 1 list at a place that it has.
+fn entry_in(list: &[u8], place: usize) -> Entry
+    requires { ⌜ place < length (now list) / 5 ⌝ }
+    ensures { λ r. ⌜ r ≡ entryOf (now (list .entry)) place ⌝ }
+{
+    let at = 5 * place;
+    let first = wide(list[at]);
+    let word = join(list[at + 1], list[at + 2], list[at + 3], list[at + 4]);
+    Entry {
+        register: first / 8,
+        spare: first % 8,
+        word,
     }
 }
 

@@ -215,13 +215,9 @@ fn flip(random: &mut Random, bytes: &mut [u8]) {
 fn room(random: &mut Random, way: usize, file: &[u8]) -> usize {
     let most = file.len() * 5 / 4 + 2 * GROUP;
     let exact = match REFERENCE[way](file, &mut vec![0; most]) {
-        Conversion {
-            number: 0, written, ..
-        } => written as usize,
-        _ => [
-            file.len() / ENTRY * GROUP / THREE,
-            file.len() / GROUP * THREE * ENTRY,
-        ][way],
+        done if done.number == 0 => done.written as usize,
+        _ if way == 0 => (file.len() / ENTRY).div_ceil(THREE) * GROUP,
+        _ => file.len() / GROUP * THREE * ENTRY,
     };
     match random.weighted(&[10, 6, 2, 1, 1]) {
         0 => exact,

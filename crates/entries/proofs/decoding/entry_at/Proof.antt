@@ -1,4 +1,5 @@
--- Past list memory there is no entry (`decoded-none`); else it is the one that lies there (`decoded-whole`).
+-- Past list memory there is no entry (`decoded-none`); else its five bytes lie there and are the entry
+-- (`decoded-whole`).
 use borrow.Author.Needs.{needs}
 use mathlib.Core.Path.{sym}
 use Rattle.entries.proofs.Decodes.{decoded-none, decoded-whole}
@@ -8,11 +9,62 @@ use Rattle.entries.proofs.decoding.entry_at.Tie as tie
 returns : tie.Need-returns
 returns c = sym (decoded-none _ _ (c .if1 .taken))
 
-entry-in-requires : tie.Need-entry-in-requires
-entry-in-requires c κs = search needs
+mul-at : tie.Need-mul-at
+mul-at c = search needs
+
+shared-slice-read-wide : tie.Need-shared-slice-read-wide
+shared-slice-read-wide c = search needs
+
+wide-requires : tie.Need-wide-requires
+wide-requires c κs = search needs
+
+add-join : tie.Need-add-join
+add-join c = search needs
+
+shared-slice-read-join : tie.Need-shared-slice-read-join
+shared-slice-read-join c = search needs
+
+add-join-2 : tie.Need-add-join-2
+add-join-2 c = search needs
+
+shared-slice-read-join-2 : tie.Need-shared-slice-read-join-2
+shared-slice-read-join-2 c = search needs
+
+add-join-3 : tie.Need-add-join-3
+add-join-3 c = search needs
+
+shared-slice-read-join-3 : tie.Need-shared-slice-read-join-3
+shared-slice-read-join-3 c = search needs
+
+add-join-4 : tie.Need-add-join-4
+add-join-4 c = search needs
+
+shared-slice-read-join-4 : tie.Need-shared-slice-read-join-4
+shared-slice-read-join-4 c = search needs
+
+join-requires : tie.Need-join-requires
+join-requires c κs = search needs
 
 returns-2 : tie.Need-returns-2
-returns-2 c = rw (c .entry-in .ensures) (sym (decoded-whole _ _ (c .before .if1 .left)))
+returns-2 c =
+    let o = c .before .before .before .before .before in
+    rw (c .join .ensures, o .wide .ensures) (sym (decoded-whole _ _ (o .before .before .if1 .left)))
 
 pub entry-at-spec : {M : Type 1} → statement M
-entry-at-spec = tie.close (tie.spec returns entry-in-requires returns-2)
+entry-at-spec =
+    tie.close
+    (tie.spec
+    returns
+    mul-at
+    shared-slice-read-wide
+    wide-requires
+    add-join
+    shared-slice-read-join
+    add-join-2
+    shared-slice-read-join-2
+    add-join-3
+    shared-slice-read-join-3
+    add-join-4
+    shared-slice-read-join-4
+    join-requires
+    returns-2)

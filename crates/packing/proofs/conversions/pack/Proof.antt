@@ -1,3 +1,5 @@
+-- A status that is done has room for its groups, and any other has none (`pack-room`), so that the output is as it must be
+-- (`pack-leaves`).
 use lib.ListN.{length}
 use Rattle.packing.proofs.Answers.{pack-room, pack-leaves}
 use borrow.Author.Needs.{needs}
@@ -14,7 +16,8 @@ write-groups-requires : tie.Need-write-groups-requires
 write-groups-requires c κs = let w = c .before in
     let a = w .before in
     let s = a .before .before .before .args in
-    pack-room (s .input .now) (length (s .output .now)) (w .written .result) (a .pack-status .result) (a .pack-status .ensures) (w .written .ensures)
+    pack-room (s .input .now) (length (s .output .now)) (w .written .result) (a .pack-status .result) (a .pack-status .ensures)
+    (w .written .ensures)
 
 same-length : tie.Need-same-length
 same-length c = search needs
@@ -24,7 +27,8 @@ returns c = let g = c .before .before in
     let w = g .before .before in
     let a = w .before in
     let s = a .before .before .before .args in
-    pack-leaves (s .input .now) (s .output .now) _ (w .written .result) (a .pack-status .result) (a .pack-status .ensures) (w .written .ensures) (g .write-groups .ensures)
+    pack-leaves (s .input .now) (s .output .now) _ (w .written .result) (a .pack-status .result) (a .pack-status .ensures)
+    (w .written .ensures) (g .write-groups .ensures)
 
 pub pack-spec : {M : Type 1} → statement M
 pack-spec =

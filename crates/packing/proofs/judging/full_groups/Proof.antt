@@ -1,11 +1,11 @@
 -- The loop's invariant: the search from group g on ends where the whole one does.
-use mathlib.Core.Path.{_≡_, sym, ap, _∙_}
+use mathlib.Core.Path.{_≡_, sym, _∙_}
 use Prim.Native.Nat.{_-_, _/_, _≤_}
 use native.Mathlib.Omega.{arith}
 use borrow.Author.Needs.{needs}
 use borrow.Author.Tests.{not-true, not-false}
 use lib.ListN.{length}
-use Rattle.packing.specs.Conversions.{fullGroup, leading}
+use Rattle.packing.specs.Conversions.{leading}
 use Rattle.packing.proofs.Judges.{fullAt, full-start, full-over, full-stops, full-goes}
 use Rattle.packing.proofs.judging.full_groups.Statement.{statement}
 use Rattle.packing.proofs.judging.full_groups.Tie as tie
@@ -36,8 +36,12 @@ loop-again c =
     let f = c .before in
     let x = f .before in
     let i = x .before .before in
-    let s = i .before .before .args in
-    (i .loop .inv .0, i .loop .inv .1 ∙ full-goes (s .list .now) (s .most) (i .loop .g) (omega arith) _ _ (x .group-at .ensures) (f .full .ensures) (not-false _ (c .if2 .left)))
+    let s = i .before .before .args in (
+      i .loop .inv .0,
+      i .loop .inv .1
+          ∙ full-goes (s .list .now) (s .most) (i .loop .g) (omega arith) _ _ (x .group-at .ensures) (f .full .ensures)
+          (not-false _ (c .if2 .left)),
+    )
 
 returns : tie.Need-returns Inv-loop μ-loop
 returns c =
@@ -51,7 +55,8 @@ returns-2 c =
     let x = f .before in
     let i = x .before .before in
     let s = i .before .before .args in
-    sym (i .loop .inv .1 ∙ full-stops (s .list .now) (s .most) (i .loop .g) (omega arith) _ _ (x .group-at .ensures) (f .full .ensures) (not-true _ (c .if2 .taken)))
+    sym (i .loop .inv .1 ∙ full-stops (s .list .now) (s .most) (i .loop .g) (omega arith) _ _ (x .group-at .ensures) (f .full .ensures)
+    (not-true _ (c .if2 .taken)))
 
 pub full-groups-spec : {M : Type 1} → statement M
 full-groups-spec =

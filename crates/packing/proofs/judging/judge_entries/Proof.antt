@@ -45,7 +45,8 @@ returns c = let i = c .before in sym (i .loop .inv .1 ∙ legal-over (i .before 
 
 returns-2 : tie.Need-returns-2 Inv-loop μ-loop
 returns-2 c =
-    sym (c .before .before .before .loop .inv .1 ∙ legal-stops _ _ (omega arith) (sym (c .before .legal-at .ensures) ∙ not-true _ (c .if2 .taken)))
+    sym (c .before .before .before .loop .inv .1
+    ∙ legal-stops _ _ (omega arith) (sym (c .before .legal-at .ensures) ∙ not-true _ (c .if2 .taken)))
 
 pub judge-entries-spec : {M : Type 1} → statement M
 judge-entries-spec =

@@ -59,7 +59,8 @@ loop-again c = let f = c .before in
       i .loop .inv .0,
       i .loop .inv .1,
       i .loop .inv .2
-          ∙ judged-goes (s .list .now) (s .count) (i .loop .sound) (i .loop .g) (omega arith) (b .first-failing .result) (x .group-at .result) (f .well-formed .result)
+          ∙ judged-goes (s .list .now) (s .count) (i .loop .sound) (i .loop .g) (omega arith) (b .first-failing .result)
+          (x .group-at .result) (f .well-formed .result)
           (x .group-at .ensures) (b .first-failing .ensures) (omega arith) (f .well-formed .ensures),
     )
 
@@ -78,7 +79,8 @@ returns-3 c = let b = c .before .before in
     let x = b .before in
     let i = x .before .before in
     let s = i .before .before .args in
-    sym (i .loop .inv .2 ∙ judged-stops (s .list .now) (s .count) (i .loop .sound) (i .loop .g) (omega arith) (b .first-failing .result) (x .group-at .result) (x .group-at .ensures) (b .first-failing .ensures) (omega arith))
+    sym (i .loop .inv .2 ∙ judged-stops (s .list .now) (s .count) (i .loop .sound) (i .loop .g) (omega arith) (b .first-failing .result)
+    (x .group-at .result) (x .group-at .ensures) (b .first-failing .ensures) (omega arith))
 
 pub judge-groups-spec : {M : Type 1} → statement M
 judge-groups-spec =

@@ -43,7 +43,8 @@ returns-4 c =
     let l = n .before .before .args .input .now in
     let count = n .count-of .result in
     unpack-judged _ _ _ (n .count-of .ensures) (o .before .before .if1 .left) (o .before .if2 .left) (o .if3 .left) _
-    (judged-past l count (lastHasOne l count) (f .full-groups .result) (omega (arith, n .count-of .ensures, count-most l)) (f .full-groups .ensures) _ (c .judge-groups .ensures))
+    (judged-past l count (lastHasOne l count) (f .full-groups .result) (omega (arith, n .count-of .ensures, count-most l))
+    (f .full-groups .ensures) _ (c .judge-groups .ensures))
 
 pub unpack-status-spec : {M : Type 1} → statement M
 unpack-status-spec =

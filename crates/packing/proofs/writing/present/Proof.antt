@@ -1,3 +1,4 @@
+-- What is decoded at the place decides (`present-by`).
 use Rattle.packing.proofs.Puts.{present-by}
 use borrow.Author.Needs.{needs}
 use Rattle.packing.proofs.writing.present.Statement.{statement}

@@ -1,3 +1,4 @@
+-- The first byte and the data after it are one run (`entry-put`).
 use mathlib.Core.Path.{_∙_}
 use native.Mathlib.Omega.{arith}
 use lib.ListN.{length-set}

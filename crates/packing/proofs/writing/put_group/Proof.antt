@@ -1,3 +1,4 @@
+-- The head and the data, each after the one before, are one run (`group-put`).
 use Rattle.packing.proofs.Puts.{group-put}
 use borrow.Author.Needs.{needs}
 use Rattle.packing.proofs.writing.put_group.Statement.{statement}
@@ -35,7 +36,8 @@ returns c = let r = c .before .before in
     let q = r .before .before .before .before in
     let p = q .before .before .before .before in
     let h = p .before .before .before .before in
-    group-put _ _ _ _ _ _ _ _ _ _ (h .before .head-of .ensures) (h .put-head .ensures) (p .put-word .ensures) (q .put-word2 .ensures) (r .put-word3 .ensures)
+    group-put _ _ _ _ _ _ _ _ _ _ (h .before .head-of .ensures) (h .put-head .ensures) (p .put-word .ensures) (q .put-word2 .ensures)
+    (r .put-word3 .ensures)
 
 pub put-group-spec : {M : Type 1} → statement M
 put-group-spec =

@@ -1,6 +1,7 @@
+-- Two stores one after the other are one run of two bytes (`set-two`).
 use native.Mathlib.Omega.{arith}
 use lib.ListN.{length-set}
-use Rattle.packing.proofs.Runs.{set-two, set-four}
+use Rattle.packing.proofs.Runs.{set-two}
 use borrow.Author.Needs.{needs}
 use Rattle.packing.proofs.writing.put_head.Statement.{statement}
 use Rattle.packing.proofs.writing.put_head.Tie as tie

@@ -44,7 +44,8 @@ returns-2 : tie.Need-returns-2
 returns-2 c =
     let r = c .before .before in
     let p = r .before .before in
-    group-same _ _ _ _ _ _ _ _ _ (p .before .before .present .ensures) (p .before .present2 .ensures) (p .present3 .ensures) (r .put-group .ensures)
+    group-same _ _ _ _ _ _ _ _ _ (p .before .before .present .ensures) (p .before .present2 .ensures) (p .present3 .ensures)
+    (r .put-group .ensures)
 
 pub put-packed-spec : {M : Type 1} → statement M
 put-packed-spec =

@@ -37,7 +37,8 @@ returns c =
     let r = c .before .before in
     let p = r .before .before in
     group-same _ _ _ _ _ _ _ _ _ (whole-present _ _ _ (omega arith) (p .before .before .entry-in .ensures))
-    (whole-present _ _ _ (omega arith) (p .before .entry-in2 .ensures)) (whole-present _ _ _ (omega arith) (p .entry-in3 .ensures)) (r .put-group .ensures)
+    (whole-present _ _ _ (omega arith) (p .before .entry-in2 .ensures)) (whole-present _ _ _ (omega arith) (p .entry-in3 .ensures))
+    (r .put-group .ensures)
 
 pub put-whole-spec : {M : Type 1} → statement M
 put-whole-spec =

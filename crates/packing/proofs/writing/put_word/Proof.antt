@@ -1,6 +1,7 @@
+-- Four stores one after the other are one run of four bytes (`set-four`).
 use native.Mathlib.Omega.{arith}
 use lib.ListN.{length-set}
-use Rattle.packing.proofs.Runs.{set-two, set-four}
+use Rattle.packing.proofs.Runs.{set-four}
 use borrow.Author.Needs.{needs}
 use Rattle.packing.proofs.writing.put_word.Statement.{statement}
 use Rattle.packing.proofs.writing.put_word.Tie as tie

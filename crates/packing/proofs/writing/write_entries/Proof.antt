@@ -1,9 +1,10 @@
+-- The loop's invariant: the entries of the first g groups stand in front of the output, and `left` are to come. A turn adds the three
+-- of group g (`three-put`), and after the loop come the one or two of the last group (`one-put`, `two-put`).
 use mathlib.Core.Path.{_≡_, refl, _∙_}
 use Prim.Native.Nat.{_+_, _*_, _/_, _≤_}
 use lib.ListN.{length}
 use lib.Seq.{sets}
 use native.Mathlib.Omega.{arith}
-use borrow.Author.Needs.{needs}
 use Rattle.packing.specs.Editions.{strung, entryBytes}
 use Rattle.packing.specs.Groups.{positionOf}
 use Rattle.packing.proofs.Puts.{one-put, two-put, three-put, all-put}
@@ -11,7 +12,8 @@ use Rattle.packing.proofs.writing.write_entries.Statement.{statement}
 use Rattle.packing.proofs.writing.write_entries.Tie as tie
 
 abbrev Inv-loop : tie.InvT-loop
-Inv-loop list out₀ count g₀ left₀ out g left = (3 * g + left ≡ count) × (length out ≡ length out₀) × (count ≤ length out₀ / 5) × (count ≤ 3 * (length list / 14))
+Inv-loop list out₀ count g₀ left₀ out g left =
+    (3 * g + left ≡ count) × (length out ≡ length out₀) × (count ≤ length out₀ / 5) × (count ≤ 3 * (length list / 14))
     × (out ≡ sets out₀ 0 (strung (λ k. entryBytes (positionOf list k)) (3 * g)))
 
 abbrev μ-loop : tie.MeasureT-loop
@@ -59,7 +61,8 @@ loop-again c = let r = c .before .before in
       r .put-entry3 .kept .0 ∙ q .put-entry2 .kept .0 ∙ p .put-entry .kept .0 ∙ i .loop .inv .1,
       i .loop .inv .2,
       i .loop .inv .3,
-      three-put (i .before .before .before .args .list .now) (i .before .before .before .args .out .now) _ _ _ _ _ _ (x .group-at .ensures) (i .loop .inv .4) (p .put-entry .ensures) (q .put-entry2 .ensures) (r .put-entry3 .ensures),
+      three-put (i .before .before .before .args .list .now) (i .before .before .before .args .out .now) _ _ _ _ _ _
+          (x .group-at .ensures) (i .loop .inv .4) (p .put-entry .ensures) (q .put-entry2 .ensures) (r .put-entry3 .ensures),
     )
 
 same-length : tie.Need-same-length Inv-loop μ-loop
@@ -109,8 +112,10 @@ returns-3 c = let q = c .before .before in
     let i = x .before .before .before in
     let e = x .before in
     let a = i .before .before .before .args in
-    all-put (a .list .now) (a .out .now) _ (3 * i .loop .g + 2) (i .before .before .before .args .count) (omega (arith, q .before .before .if2 .left))
-    (two-put (a .list .now) (a .out .now) _ _ _ _ _ (x .group-at2 .ensures) (i .loop .inv .4) (p .put-entry4 .ensures) (q .put-entry5 .ensures))
+    all-put (a .list .now) (a .out .now) _ (3 * i .loop .g + 2) (i .before .before .before .args .count)
+    (omega (arith, q .before .before .if2 .left))
+    (two-put (a .list .now) (a .out .now) _ _ _ _ _ (x .group-at2 .ensures) (i .loop .inv .4) (p .put-entry4 .ensures)
+    (q .put-entry5 .ensures))
 
 pub write-entries-spec : {M : Type 1} → statement M
 write-entries-spec =

@@ -1,16 +1,18 @@
-use mathlib.Core.Path.{_≡_, refl, _∙_, ap}
+-- The loop's invariant: the first g groups stand in front of the output, which is else as it was; a turn adds group g
+-- (`groups-more`).
+use mathlib.Core.Path.{_≡_, refl, _∙_}
 use Prim.Native.Nat.{_/_, _-_, _≤_}
 use lib.ListN.{length}
 use lib.Seq.{sets}
 use native.Mathlib.Omega.{arith}
-use borrow.Author.Needs.{needs}
 use Rattle.packing.specs.Editions.{strung, packedGroup}
 use Rattle.packing.proofs.Puts.{groups-more, groups-all}
 use Rattle.packing.proofs.writing.write_groups.Statement.{statement}
 use Rattle.packing.proofs.writing.write_groups.Tie as tie
 
 abbrev Inv-loop : tie.InvT-loop
-Inv-loop list out₀ groups g₀ out g = (g ≤ groups) × (length out ≡ length out₀) × (groups ≤ length out₀ / 14) × (out ≡ sets out₀ 0 (strung (packedGroup list) g))
+Inv-loop list out₀ groups g₀ out g =
+    (g ≤ groups) × (length out ≡ length out₀) × (groups ≤ length out₀ / 14) × (out ≡ sets out₀ 0 (strung (packedGroup list) g))
 
 abbrev μ-loop : tie.MeasureT-loop
 μ-loop list out₀ groups g₀ out g = groups - g

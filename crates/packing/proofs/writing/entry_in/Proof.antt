@@ -1,6 +1,6 @@
 use borrow.Author.Needs.{needs}
-use Rattle.entries.proofs.decoding.entry_in.Statement.{statement}
-use Rattle.entries.proofs.decoding.entry_in.Tie as tie
+use Rattle.packing.proofs.writing.entry_in.Statement.{statement}
+use Rattle.packing.proofs.writing.entry_in.Tie as tie
 
 mul-at : tie.Need-mul-at
 mul-at c = search needs
