@@ -18,7 +18,7 @@ use Rattle.packing.specs.Editions.{groupsFor}
 use Rattle.packing.specs.Groups.{groupOf, positionOf, closingOf, countOf}
 use Rattle.packing.specs.Reports.{Report, report}
 use Rattle.packing.specs.Conversions.{failsAt, firstNot, holds, judgedBy, legalityOf}
-use Rattle.packing.specs.Conversions.{passes, firstFailing, placed, wellFormed, judgement, judgedFrom, fullGroup, leading}
+use Rattle.packing.specs.Conversions.{passes, firstFailing, placed, wellFormed, judgement, judgedFrom, judgedPast, fullGroup, leading}
 use Rattle.packing.specs.declared.groups.Group.{Group}
 use Rattle.packing.proofs.Puts.{position-first, position-second, position-third}
 use Rattle.packing.proofs.Searches.{first-none, first-here, first-next, lead-over, lead-stops, lead-goes}
@@ -299,27 +299,27 @@ module _ (l : List ℕ) (most : ℕ) where
   full-goes g h x t p q r = lead-goes (fullAt l) g (most - g) (most - (g + 1)) (omega arith) (full-at g x t true p q r)
 
 module _ (l : List ℕ) (count : ℕ) (sound : Bool) where
-  abbrev from : ℕ → Report
-  from g = judgedFrom l count sound g (length l / 14 - g)
-
-  one-full : (g : ℕ) → g < length l / 14 → 3 * g + 2 < count → fullAt l g ≡ true → from g ≡ from (g + 1)
+  one-full : (g : ℕ) → g < length l / 14 → 3 * g + 2 < count → fullAt l g ≡ true
+      → judgedPast l count sound g ≡ judgedPast l count sound (g + 1)
   one-full g h k f =
       judged-goes l count sound g h 3 (groupOf l g) true refl (full-passes (groupOf l g) f) (omega arith)
       (full-formed (groupOf l g) f (3 * g) count k)
       ∙ ap (λ (t : Bool). judgedFrom l count t (g + 1) (length l / 14 - (g + 1))) (and-true sound)
 
-  pub lead-judged : (g n : ℕ) → g + n ≤ length l / 14 → 3 * (g + n) ≤ count → from g ≡ from (leading (fullAt l) g n)
+  pub lead-judged : (g n : ℕ) → g + n ≤ length l / 14 → 3 * (g + n) ≤ count
+      → judgedPast l count sound g ≡ judgedPast l count sound (leading (fullAt l) g n)
   unfolding leading
   lead-judged g zero h k = refl
   lead-judged g (suc n) h k =
       by-cases (fullAt l g)
       (λ t.
       let e : g + 1 ≡ suc g = omega arith in
-      rw t (one-full g (omega arith) (omega arith) t ∙ ap from e ∙ lead-judged (suc g) n (omega arith) (omega arith)))
+      rw t (one-full g (omega arith) (omega arith) t ∙ ap (judgedPast l count sound) e ∙ lead-judged (suc g) n (omega arith) (omega arith)))
       (λ t. rw t)
 
   -- the groups past the full ones decide
-  pub judged-past : (k : ℕ) → count ≤ 3 * (length l / 14) → k ≡ leading (fullAt l) 0 (count / 3) → (r : Report) → r ≡ from k
+  pub judged-past : (k : ℕ) → count ≤ 3 * (length l / 14) → k ≡ leading (fullAt l) 0 (count / 3) → (r : Report)
+      → r ≡ judgedPast l count sound k
       → r ≡ judgedFrom l count sound 0 (length l / 14)
   judged-past k h e r q =
-      q ∙ ap from e ∙ sym (judged-start l count sound 0 refl ∙ lead-judged 0 (count / 3) (omega arith) (omega arith))
+      q ∙ ap (judgedPast l count sound) e ∙ sym (judged-start l count sound 0 refl ∙ lead-judged 0 (count / 3) (omega arith) (omega arith))

@@ -1,7 +1,7 @@
 -- What packing and unpacking answer, and the lent output after them (02, R-4): "Refusals, lowest number first".
 use mathlib.Core.Bool.{Bool, true, not, cond, _&&_, _||_}
 use mathlib.Core.List.{List, _++_}
-use Prim.Native.Nat.{ℕ, zero, suc, _+_, _*_, _/_, _%_}
+use Prim.Native.Nat.{ℕ, zero, suc, _+_, _-_, _*_, _/_, _%_}
 use lib.Dec.{eqb, leb, ltb}
 use lib.ListN.{length, drop}
 use Rattle.entries.specs.Layout.{entryOf}
@@ -71,6 +71,10 @@ abbrev pub judgedFrom : List ℕ → ℕ → Bool → ℕ → ℕ → Report
 judgedFrom l count sound g groups =
     judgement count (sound && holds (λ k. wellFormed (groupOf l k) (3 * k) count) g groups)
     (firstNot (λ p. passes (positionOf l p)) (3 * g) (3 * groups))
+
+-- The groups from g on to the last.
+abbrev pub judgedPast : List ℕ → ℕ → Bool → ℕ → Report
+judgedPast l count sound g = judgedFrom l count sound g (length l / 14 - g)
 
 -- Three legal entries, of which none is a 31, and the zero bit zero: before the count such a group is sound.
 abbrev pub fullGroup : Group → Bool

@@ -1,11 +1,11 @@
 // What a conversion answers, before it writes.
 ghost use mathlib.Core.Path.{_≡_};
-ghost use Prim.Native.Nat.{_+_, _-_, _/_, _≤_};
+ghost use Prim.Native.Nat.{_+_, _/_, _≤_};
 ghost use lib.ListN.{length};
 ghost use Rattle.packing.specs.Reports.{reportOf};
 ghost use Rattle.packing.specs.Groups.{groupOf};
 ghost use Rattle.packing.specs.Conversions.{legalityOf, packReport};
-ghost use Rattle.packing.specs.Conversions.{passes, firstFailing, placed, wellFormed, judgedFrom, fullGroup, leading, unpackReport};
+ghost use Rattle.packing.specs.Conversions.{passes, firstFailing, placed, wellFormed, judgedPast, fullGroup, leading, unpackReport};
 use crate::groups::Group;
 use crate::groups::count_of;
 use crate::groups::group_at;
@@ -98,7 +98,7 @@ fn well_formed(x: Group, place: usize, count: usize) -> bool
 // Group by group from group `from` on, the first illegal entry and whether all is well formed.
 fn judge_groups(list: &[u8], count: usize, start: bool, from: usize) -> Status
     requires { ⌜ count ≤ 4096 ⌝ }
-    ensures { λ r. ⌜ reportOf r ≡ judgedFrom (now (list .entry)) count start from (length (now (list .entry)) / 14 - from) ⌝ }
+    ensures { λ r. ⌜ reportOf r ≡ judgedPast (now (list .entry)) count start from ⌝ }
 {
     let groups = list.len() / 14;
     let mut sound = start;

@@ -1,13 +1,13 @@
 -- The loop's invariant: what is judged from group g on, after the groups before it, is what the whole is judged to be
 -- (`judged-goes`); it ends with the groups (`judged-over`) or at the first entry that does not pass (`judged-stops`).
-use mathlib.Core.Bool.{true, false}
-use Rattle.packing.proofs.Judges.{judged-over, judged-stops, judged-goes}
 use mathlib.Core.Path.{_≡_, refl, sym, _∙_}
+use mathlib.Core.Bool.{true, false}
 use Prim.Native.Nat.{_/_, _-_, _≤_}
 use lib.ListN.{length}
 use native.Mathlib.Omega.{arith}
 use borrow.Author.Needs.{needs}
-use Rattle.packing.specs.Conversions.{judgedFrom}
+use Rattle.packing.specs.Conversions.{judgedPast}
+use Rattle.packing.proofs.Judges.{judged-over, judged-stops, judged-goes}
 use Rattle.packing.proofs.judging.judge_groups.Statement.{statement}
 use Rattle.packing.proofs.judging.judge_groups.Tie as tie
 
@@ -15,7 +15,7 @@ abbrev Inv-loop : tie.InvT-loop
 Inv-loop list count start from groups sound₀ g₀ sound g =
     (groups ≡ length list / 14)
     × (count ≤ 4096)
-    × (judgedFrom list count start from (length list / 14 - from) ≡ judgedFrom list count sound g (length list / 14 - g))
+    × (judgedPast list count start from ≡ judgedPast list count sound g)
 
 abbrev μ-loop : tie.MeasureT-loop
 μ-loop list count start from groups sound₀ g₀ sound g = groups - g
