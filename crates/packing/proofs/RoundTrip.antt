@@ -5,7 +5,7 @@ use mathlib.Core.Bool.{Bool, true, false, cond, false≢true}
 use mathlib.Core.List.{List}
 use Prim.Native.Nat.{ℕ, zero, _+_, _-_, _*_, _/_, _%_, _≤_, _<_}
 use native.Mathlib.Omega.{arith}
-use borrow.Author.Tests.{eqb-true, eqb-false, eq-eqb, ne-eqb, ltb-true, ltb-false, lt-ltb, le-ltb, le-leb, lt-leb}
+use borrow.Author.Tests.{eqb-true, eqb-false, eq-eqb, ne-eqb, ltb-true, ltb-false, lt-ltb, le-ltb}
 use lib.Dec.{eqb, ltb}
 use lib.ListN.{length, getD}
 use lib.Seq.{ext-getD}
@@ -103,7 +103,7 @@ module _ (l : List ℕ) (n : ℕ) (ok : LegalList l n) where
   in-place k h = legal-placed (e k) k n h (ok .legal k h)
 
   past : (k : ℕ) → n ≤ k → placed missing k n ≡ true
-  past k h = rw (le-ltb k n h, le-leb n k h)
+  past k h = rw (le-ltb k n h)
 
   placing : (k : ℕ) → placed (orMissing e n k) k n ≡ true
   placing k =
@@ -169,12 +169,12 @@ comes-back l n ok out back h k = (
 -- ---- every accepted file is the one its list gives
 placed-in : (x : Entry) (p n : ℕ) → p < n → placed x p n ≡ true → x .register ≡ 31 → ⊥
 placed-in x p n h s r =
-    let k : placed x p n ≡ false = rw (eq-eqb (x .register) 31 r, lt-ltb p n h, lt-leb n p h) in false≢true (sym k ∙ s)
+    let k : placed x p n ≡ false = rw (eq-eqb (x .register) 31 r, lt-ltb p n h) in false≢true (sym k ∙ s)
 
 placed-out : (x : Entry) (p n : ℕ) → n ≤ p → placed x p n ≡ true → x .word ≡ 0
 placed-out x p n h s =
     by-cases (eqb (x .word) 0) (λ t. eqb-true (x .word) 0 t)
-    (λ t. let k : placed x p n ≡ false = rw (t, le-ltb p n h, le-leb n p h) in absurd (false≢true (sym k ∙ s)))
+    (λ t. let k : placed x p n ≡ false = rw (t, le-ltb p n h) in absurd (false≢true (sym k ∙ s)))
 
 module _ (m : List ℕ) where
   pub position-spare : (p : ℕ) → positionOf m p .spare ≡ 0

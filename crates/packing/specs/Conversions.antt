@@ -2,7 +2,7 @@
 use mathlib.Core.Bool.{Bool, true, not, cond, _&&_, _||_}
 use mathlib.Core.List.{List, _++_}
 use Prim.Native.Nat.{ℕ, zero, suc, _+_, _-_, _*_, _/_, _%_}
-use lib.Dec.{eqb, leb, ltb}
+use lib.Dec.{eqb, ltb}
 use lib.ListN.{length, drop}
 use Rattle.entries.specs.Layout.{entryOf}
 use Rattle.entries.specs.Legality.{entryLegal}
@@ -55,7 +55,7 @@ firstFailing x = cond (passes (x .first)) (cond (passes (x .second)) (cond (pass
 -- "10 for a wrong zero bit, a misplaced 31 or its data not zero": an entry before the count is no 31; those past it are, and
 -- have no data.
 abbrev pub placed : Entry → ℕ → ℕ → Bool
-placed e place count = ltb place count && not (eqb (e .register) 31) || leb count place && eqb (e .word) 0
+placed e place count = cond (ltb place count) (not (eqb (e .register) 31)) (eqb (e .word) 0)
 
 abbrev pub wellFormed : Group → ℕ → ℕ → Bool
 wellFormed x place count =

@@ -81,7 +81,10 @@ fn first_failing(x: Group) -> usize
 fn well_placed(e: Entry, place: usize, count: usize) -> bool
     ensures { λ r. ⌜ r ≡ placed e place count ⌝ }
 {
-    (place < count) & (e.register != 31) | (count <= place) & (e.word == 0)
+    if place < count {
+        return e.register != 31;
+    }
+    e.word == 0
 }
 
 // Whether the zero bit is zero and each entry of a group in its place.
