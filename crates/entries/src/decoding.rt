@@ -16,7 +16,7 @@ pub enum Decoded {
 }
 
 // Four bytes as one number, most significant first.
-fn join(a: u8, b: u8, c: u8, d: u8) -> u32
+pub fn join(a: u8, b: u8, c: u8, d: u8) -> u32
     ensures { λ r. ⌜ r ≡ joined a b c d ⌝ }
 {
     (a as u32) * 16777216 + (b as u32) * 65536 + (c as u32) * 256 + (d as u32)

@@ -6,6 +6,7 @@ mod legality;
 pub use decoding::Decoded;
 pub use decoding::Entry;
 pub use decoding::entry_at;
+pub use decoding::join;
 pub use fields::Command;
 pub use fields::PatternControl;
 pub use fields::command_of;

@@ -7,6 +7,7 @@ pub mod call;
 pub mod choose;
 pub mod difference;
 pub mod lists;
+pub mod packing;
 pub mod paper;
 pub mod random;
 pub mod sequence;

@@ -6,6 +6,7 @@ mod claim;
 mod common;
 mod grounds;
 mod malformed;
+mod packing;
 mod paper;
 mod pixels;
 mod stipples;

@@ -1,0 +1,9 @@
+pub mod Runs
+pub mod Puts
+pub mod Searches
+pub mod Judges
+pub mod Answers
+pub mod Words
+pub mod Back
+pub mod RoundTrip
+pub mod Examples

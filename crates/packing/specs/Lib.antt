@@ -1,0 +1,6 @@
+pub mod Editions
+pub mod Groups
+pub mod Reports
+pub mod Conversions
+pub mod RoundTrip
+pub mod Examples

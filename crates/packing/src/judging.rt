@@ -1,0 +1,173 @@
+// What a conversion answers, before it writes.
+ghost use mathlib.Core.Path.{_≡_};
+ghost use Prim.Native.Nat.{_+_, _/_, _≤_};
+ghost use lib.ListN.{length};
+ghost use Rattle.packing.specs.Reports.{reportOf};
+ghost use Rattle.packing.specs.Groups.{groupOf};
+ghost use Rattle.packing.specs.Conversions.{legalityOf, packReport};
+ghost use Rattle.packing.specs.Conversions.{passes, firstFailing, placed, wellFormed, judgedPast, fullGroup, leading, unpackReport};
+use crate::groups::Group;
+use crate::groups::count_of;
+use crate::groups::group_at;
+use crate::statuses::Status;
+use entries::Entry;
+use entries::legal_at;
+use entries::legal_entry;
+
+// The first illegal entry of an edition 1 list, entry by entry.
+fn judge_entries(list: &[u8]) -> Status
+    ensures { λ r. ⌜ reportOf r ≡ legalityOf (now (list .entry)) ⌝ }
+{
+    let count = list.len() / 5;
+    let mut place: usize = 0;
+    loop {
+        if count <= place {
+            break Status::Done(14 * ((count + 2) / 3));
+        }
+        if !legal_at(list, place) {
+            break Status::IllegalEntry(place);
+        }
+        place += 1;
+    }
+}
+
+// What packing into `room` bytes answers.
+pub fn pack_status(input: &[u8], room: usize) -> Status
+    ensures { λ r. ⌜ reportOf r ≡ packReport (now (input .entry)) room ⌝ }
+{
+    let count = input.len() / 5;
+    if (input.len() % 5 != 0) | (room / 14 < (count + 2) / 3) {
+        return Status::WrongSize;
+    }
+    if input.len() == 0 {
+        return Status::NoEntries;
+    }
+    if 4096 < count {
+        return Status::TooMany;
+    }
+    judge_entries(input)
+}
+
+// A legal entry, or a 31.
+fn passes(e: Entry) -> bool
+    ensures { λ r. ⌜ r ≡ passes e ⌝ }
+{
+    if e.register == 31 {
+        return true;
+    }
+    legal_entry(e.register, e.spare, e.word)
+}
+
+// The first entry of a group that does not pass, 3 for none.
+fn first_failing(x: Group) -> usize
+    ensures { λ r. ⌜ r ≡ firstFailing x ⌝ }
+{
+    let a = x.first;
+    if !passes(a) {
+        return 0;
+    }
+    let b = x.second;
+    if !passes(b) {
+        return 1;
+    }
+    let c = x.third;
+    if !passes(c) {
+        return 2;
+    }
+    3
+}
+
+// An entry before the count is no 31, and one past it has no data.
+fn well_placed(e: Entry, place: usize, count: usize) -> bool
+    ensures { λ r. ⌜ r ≡ placed e place count ⌝ }
+{
+    if place < count {
+        return e.register != 31;
+    }
+    e.word == 0
+}
+
+// Whether the zero bit is zero and each entry of a group in its place.
+fn well_formed(x: Group, place: usize, count: usize) -> bool
+    requires { ⌜ place + 2 ≤ 18446744073709551615 ⌝ }
+    ensures { λ r. ⌜ r ≡ wellFormed x place count ⌝ }
+{
+    let a = well_placed(x.first, place, count);
+    let b = well_placed(x.second, place + 1, count);
+    let c = well_placed(x.third, place + 2, count);
+    (x.zero == 0) & a & b & c
+}
+
+// Group by group from group `from` on, the first illegal entry and whether all is well formed.
+fn judge_groups(list: &[u8], count: usize, start: bool, from: usize) -> Status
+    requires { ⌜ count ≤ 4096 ⌝ }
+    ensures { λ r. ⌜ reportOf r ≡ judgedPast (now (list .entry)) count start from ⌝ }
+{
+    let groups = list.len() / 14;
+    let mut sound = start;
+    let mut g = from;
+    loop {
+        if groups <= g {
+            break if sound {
+                Status::Done(5 * count)
+            } else {
+                Status::Malformed
+            };
+        }
+        let x = group_at(list, g);
+        let failing = first_failing(x);
+        let good = well_formed(x, 3 * g, count);
+        if failing < 3 {
+            break Status::IllegalEntry(3 * g + failing);
+        }
+        sound = sound & good;
+        g += 1;
+    }
+}
+
+// Three legal entries, of which none is a 31, and the zero bit zero.
+fn full(x: Group) -> bool
+    ensures { λ r. ⌜ r ≡ fullGroup x ⌝ }
+{
+    let a = legal_entry(x.first.register, x.first.spare, x.first.word);
+    let b = legal_entry(x.second.register, x.second.spare, x.second.word);
+    let c = legal_entry(x.third.register, x.third.spare, x.third.word);
+    (x.zero == 0) & a & b & c
+}
+
+// How many groups are full before the first that is not, at most `most`.
+fn full_groups(list: &[u8], most: usize) -> usize
+    requires { ⌜ most ≤ length (now list) / 14 ⌝ }
+    ensures { λ r. ⌜ r ≡ leading (λ g. fullGroup (groupOf (now (list .entry)) g)) 0 most ⌝ }
+{
+    let mut g: usize = 0;
+    loop {
+        if most <= g {
+            break g;
+        }
+        let x = group_at(list, g);
+        if !full(x) {
+            break g;
+        }
+        g += 1;
+    }
+}
+
+// What unpacking into `room` bytes answers.
+pub fn unpack_status(input: &[u8], room: usize) -> Status
+    ensures { λ r. ⌜ reportOf r ≡ unpackReport (now (input .entry)) room ⌝ }
+{
+    let count = count_of(input);
+    if (input.len() % 14 != 0) | (room / 5 < count) {
+        return Status::WrongSize;
+    }
+    if input.len() == 0 {
+        return Status::NoEntries;
+    }
+    if 4096 < count {
+        return Status::TooMany;
+    }
+    // Full groups are sound before the count; what is left is often the last group alone.
+    let from = full_groups(input, count / 3);
+    judge_groups(input, count, 3 * (input.len() / 14) < count + 3, from)
+}
