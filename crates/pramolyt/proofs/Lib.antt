@@ -1,3 +1,4 @@
 pub mod RoundTrips
 pub mod Calls
 pub mod Refusals
+pub mod Files

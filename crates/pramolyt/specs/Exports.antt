@@ -8,6 +8,7 @@ use lib.ListN.{length}
 use Rattle.board.specs.Calls.{Reply, makeCall, postCall, Written, storeCall, writeCall}
 use Rattle.board.specs.Steps.{machine}
 use Rattle.board.specs.Runs.{Outcome, runCall}
+use Rattle.packing.specs.Conversions.{Converted, packOf, unpackOf}
 use Rattle.pramolyt.specs.Image.{words, wordsOf, boardOf, flagsOk}
 
 -- An image with a flag that is neither 0 nor 1 is no record's: the answer is 1, "record malformed".
@@ -85,6 +86,25 @@ ranBy o = ran (o .report .number) (wordsOf (o .after .board)) (o .report .steps)
 unfoldable pub runImage : List ℕ → ℕ → List ℕ → List ℕ → List ℕ → Ran
 runImage w budget list display virt =
     ofImage w (ranBy (runCall budget list (machine (boardOf w) display virt))) (ran 1 w 0 display virt)
+
+-- ---- pack and unpack (02, R-4): "returning the bytes written"
+pub record Filed : Type 0 where
+  pub number : ℕ
+  pub written : ℕ
+  pub place : ℕ
+  pub output : List ℕ
+
+abbrev pub filed : ℕ → ℕ → ℕ → List ℕ → Filed
+filed number written place output = record { number = number; written = written; place = place; output = output }
+
+abbrev pub filedBy : Converted → Filed
+filedBy c = filed (c .report .number) (c .report .written) (c .report .place) (c .output)
+
+unfoldable pub packFile : List ℕ → List ℕ → Filed
+packFile input output = filedBy (packOf input output)
+
+unfoldable pub unpackFile : List ℕ → List ℕ → Filed
+unpackFile input output = filedBy (unpackOf input output)
 
 -- ---- refusals: "record as given", and "Lent bytes that no rule writes stay, and in a refusal other than 9 all stay.";
 -- proved in proofs/Refusals.antt

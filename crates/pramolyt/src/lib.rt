@@ -2,7 +2,7 @@
 // the caller keeps; each call answers document 01's number (What the engine has, and What the host hears). Each name ends in
 // the edition of the record and of the arguments: a change of either changes the names, here and in the header.
 ghost use mathlib.Core.Path.{_≡_};
-ghost use Rattle.pramolyt.specs.Exports.{made, makeImage, posted, postImage, changed, storeImage, writeImage, ran, runImage};
+ghost use Rattle.pramolyt.specs.Exports.{made, makeImage, posted, postImage, changed, storeImage, writeImage, ran, runImage, filed, packFile, unpackFile};
 
 mod image;
 
@@ -11,6 +11,8 @@ use image::WORDS;
 use image::decode;
 use image::encode;
 use image::flags_ok;
+use packing::pack;
+use packing::unpack;
 
 #[no_mangle]
 pub extern "C" fn pramolyt_make_r1(
@@ -112,5 +114,35 @@ pub extern "C" fn pramolyt_run_r1(
     let status = ran.status;
     *board = encode(ran.board);
     *steps = status.steps();
+    status.number()
+}
+
+#[no_mangle]
+pub extern "C" fn pramolyt_pack_r1(
+    written: &mut u64,
+    place: &mut u64,
+    input: &[u8],
+    output: &mut [u8],
+) -> u32
+    ensures { λ r. ⌜ filed r (now (written .exit)) (now (place .exit)) (now (output .exit)) ≡ packFile (now (input .entry)) (now (output .entry)) ⌝ }
+{
+    let status = pack(input, output);
+    *written = status.written() as u64;
+    *place = status.place() as u64;
+    status.number()
+}
+
+#[no_mangle]
+pub extern "C" fn pramolyt_unpack_r1(
+    written: &mut u64,
+    place: &mut u64,
+    input: &[u8],
+    output: &mut [u8],
+) -> u32
+    ensures { λ r. ⌜ filed r (now (written .exit)) (now (place .exit)) (now (output .exit)) ≡ unpackFile (now (input .entry)) (now (output .entry)) ⌝ }
+{
+    let status = unpack(input, output);
+    *written = status.written() as u64;
+    *place = status.place() as u64;
     status.number()
 }
