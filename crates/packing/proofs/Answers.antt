@@ -17,7 +17,7 @@ use Rattle.packing.specs.Editions.{strung, entryBytes, groupBytes, group
 use Rattle.packing.specs.Groups.{groupOf, positionOf, countOf}
 use Rattle.packing.specs.Reports.{Report, report, reportOf}
 use Rattle.packing.specs.Conversions.{Found, failsAt, nowhere, firstNot, holds, refusedOr, judgedBy, legalityOf, packReport}
-use Rattle.packing.specs.Conversions.{passes, wellFormed, judgement, judgedFrom, lastHasOne, unpackReport}
+use Rattle.packing.specs.Conversions.{passes, wellFormed, judgement, lastHasOne, judgedWhole, unpackReport}
 use Rattle.packing.specs.Conversions.{converted, convertedTo, packOf, unpackOf}
 use Rattle.packing.specs.declared.statuses.Status.{Status}
 use Rattle.packing.specs.declared.statuses.Status.the-variants.{Done, WrongSize, NoEntries, TooMany, IllegalEntry, Malformed}
@@ -37,6 +37,12 @@ room-fourteen room n =
     by-cases (ltb (room / 14) n)
     (λ t. let h = ltb-true (room / 14) n t in t ∙ sym (lt-ltb room (14 * n) (omega arith)))
     (λ t. let h = ltb-false (room / 14) n t in t ∙ sym (le-ltb room (14 * n) (omega arith)))
+
+whole-groups : (size groups : ℕ) → groups ≡ size / 14 → eqb (14 * groups) size ≡ eqb (size % 14) 0
+whole-groups size groups q =
+    by-cases (eqb (size % 14) 0)
+    (λ t. let h = eqb-true (size % 14) 0 t in eq-eqb (14 * groups) size (omega arith) ∙ sym t)
+    (λ t. let h = eqb-false (size % 14) 0 t in ne-eqb (14 * groups) size (λ e. h (omega arith)) ∙ sym t)
 
 -- ---- test by test
 module _ (l : List ℕ) (room : ℕ) where
@@ -63,32 +69,38 @@ module _ (l : List ℕ) (room : ℕ) where
   unfolding packReport
   pack-judged e h k r q = rw (sym pack-size ∙ e, ne-eqb (length l) 0 h, le-ltb 4096 (length l / 5) k) q
 
-  -- n is the number of entries, as the code has counted them
-  abbrev pub unpackSize : ℕ → Bool
-  unpackSize n = not (eqb (length l % 14) 0) || ltb (room / 5) n
+  -- of so many groups and n entries, as the code has counted them
+  module _ (groups : ℕ) (q : groups ≡ length l / 14) (n : ℕ) (p : n ≡ countOf l) where
+    abbrev pub unpackSize : Bool
+    unpackSize = not (eqb (14 * groups) (length l)) || ltb (room / 5) n
 
-  unpack-size : (n : ℕ) → n ≡ countOf l → unpackSize n ≡ (not (eqb (length l % 14) 0) || ltb room (5 * countOf l))
-  unpack-size n p = ap (λ (t : Bool). not (eqb (length l % 14) 0) || t) (room-five room n ∙ ap (λ (k : ℕ). ltb room (5 * k)) p)
+    unpack-size : unpackSize ≡ (not (eqb (length l % 14) 0) || ltb room (5 * countOf l))
+    unpack-size =
+        ap (λ (t : Bool). not t || ltb (room / 5) n) (whole-groups (length l) groups q)
+        ∙ ap (λ (t : Bool). not (eqb (length l % 14) 0) || t) (room-five room n ∙ ap (λ (k : ℕ). ltb room (5 * k)) p)
 
-  pub unpack-wrong : (n : ℕ) → n ≡ countOf l → unpackSize n ≡ true → report 2 0 0 ≡ unpackReport l room
-  unfolding unpackReport
-  unpack-wrong n p e = rw (sym (unpack-size n p) ∙ e)
+    pub unpack-wrong : unpackSize ≡ true → report 2 0 0 ≡ unpackReport l room
+    unfolding unpackReport
+    unpack-wrong e = rw (sym unpack-size ∙ e)
 
-  pub unpack-none : (n : ℕ) → n ≡ countOf l → unpackSize n ≡ false → length l ≡ 0 → report 3 0 0 ≡ unpackReport l room
-  unfolding unpackReport
-  unpack-none n p e h = rw (sym (unpack-size n p) ∙ e, eq-eqb (length l) 0 h)
+    pub unpack-none : unpackSize ≡ false → length l ≡ 0 → report 3 0 0 ≡ unpackReport l room
+    unfolding unpackReport
+    unpack-none e h = rw (sym unpack-size ∙ e, eq-eqb (length l) 0 h)
 
-  pub unpack-many : (n : ℕ) → n ≡ countOf l → unpackSize n ≡ false → (length l ≡ 0 → ⊥) → 4096 < n
-      → report 4 0 0 ≡ unpackReport l room
-  unfolding unpackReport
-  unpack-many n p e h k = rw (sym (unpack-size n p) ∙ e, ne-eqb (length l) 0 h, lt-ltb 4096 (countOf l) (omega arith))
+    pub unpack-many : unpackSize ≡ false → (length l ≡ 0 → ⊥) → 4096 < n → report 4 0 0 ≡ unpackReport l room
+    unfolding unpackReport
+    unpack-many e h k = rw (sym unpack-size ∙ e, ne-eqb (length l) 0 h, lt-ltb 4096 (countOf l) (omega arith))
 
-  pub unpack-judged : (n : ℕ) → n ≡ countOf l → unpackSize n ≡ false → (length l ≡ 0 → ⊥) → n ≤ 4096 → (r : Report)
-      → r ≡ judgedFrom l n (lastHasOne l n) 0 (length l / 14) → r ≡ unpackReport l room
-  unfolding unpackReport
-  unpack-judged n p e h k r q =
-      rw (sym (unpack-size n p) ∙ e, ne-eqb (length l) 0 h, le-ltb 4096 (countOf l) (omega arith))
-      (q ∙ ap (λ (m : ℕ). judgedFrom l m (lastHasOne l m) 0 (length l / 14)) p)
+    pub unpack-judged : unpackSize ≡ false → (length l ≡ 0 → ⊥) → n ≤ 4096 → (r : Report) → r ≡ judgedWhole l n → r ≡ unpackReport l room
+    unfolding unpackReport
+    unpack-judged e h k r j =
+        rw (sym unpack-size ∙ e, ne-eqb (length l) 0 h, le-ltb 4096 (countOf l) (omega arith)) (j ∙ ap (judgedWhole l) p)
+
+    -- past both tests there is a group
+    pub unpack-some : unpackSize ≡ false → (length l ≡ 0 → ⊥) → 0 < groups
+    unpack-some e h =
+        let whole = eqb (14 * groups) (length l) in
+        omega (arith, h, eqb-true (14 * groups) (length l) (not-false whole (or-none-left (not whole) (ltb (room / 5) n) e)))
 
 -- ---- what 'done' says
 record Went (a b c : Bool) (x : Report) (n : ℕ) : Type 0 where

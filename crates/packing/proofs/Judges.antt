@@ -3,11 +3,11 @@
 use mathlib.Core.Path.{_≡_, refl, ap, sym, _∙_}
 use mathlib.Core.Bool.{Bool, true, false, cond, _&&_, false≢true}
 use mathlib.Core.List.{List}
-use Prim.Native.Nat.{ℕ, zero, suc, _+_, _-_, _*_, _/_, _≤_, _<_}
+use Prim.Native.Nat.{ℕ, zero, suc, _+_, _-_, _*_, _/_, _%_, _≤_, _<_}
 use native.Mathlib.Numerals.{add-one}
 use native.Mathlib.Omega.{arith}
-use borrow.Author.Tests.{eqb-true, eq-eqb, ne-eqb, lt-ltb}
-use lib.Dec.{eqb}
+use borrow.Author.Tests.{eqb-true, eqb-false, eq-eqb, ne-eqb, lt-ltb, le-ltb, ltb-false}
+use lib.Dec.{eqb, ltb}
 use lib.ListN.{length}
 use Rattle.lemmas.proofs.Booleans.{by-cases, and-left, and-right, or-by}
 use Rattle.entries.specs.Layout.{entryOf}
@@ -18,7 +18,8 @@ use Rattle.packing.specs.Editions.{groupsFor}
 use Rattle.packing.specs.Groups.{groupOf, positionOf, closingOf, countOf}
 use Rattle.packing.specs.Reports.{Report, report}
 use Rattle.packing.specs.Conversions.{failsAt, firstNot, holds, judgedBy, legalityOf}
-use Rattle.packing.specs.Conversions.{passes, firstFailing, placed, wellFormed, judgement, judgedFrom, judgedPast, fullGroup, leading}
+use Rattle.packing.specs.Conversions.{passes, firstFailing, placed, wellFormed, judgement, judgedFrom, judgedPast}
+use Rattle.packing.specs.Conversions.{lastHasOne, fullGroup, leading, onePresent, twoPresent, restSound}
 use Rattle.packing.specs.declared.groups.Group.{Group}
 use Rattle.packing.proofs.Puts.{position-first, position-second, position-third}
 use Rattle.packing.proofs.Searches.{first-none, first-here, first-next, lead-over, lead-stops, lead-goes}
@@ -89,6 +90,42 @@ count-is l x k p q = ap (λ (n : ℕ). 3 * (length l / 14) - n) (q ∙ ap closin
 pub count-most : (l : List ℕ) → countOf l ≤ 3 * (length l / 14)
 unfolding countOf
 count-most l = omega arith
+
+pub count-least : (l : List ℕ) → 3 * (length l / 14) ≤ countOf l + 3
+unfolding countOf
+count-least l = omega (arith, closing-most (groupOf l (length l / 14 - 1)))
+
+-- as the code counts them, by the number of groups
+pub count-groups-none : (l : List ℕ) (groups : ℕ) → groups ≡ length l / 14 → groups ≡ 0 → 0 ≡ countOf l
+count-groups-none l groups p q = count-none l (omega arith)
+
+pub count-groups : (l : List ℕ) (groups : ℕ) (x : Group) (k : ℕ) → groups ≡ length l / 14 → x ≡ groupOf l (groups - 1) → k ≡ closingOf x
+    → 3 * groups - k ≡ countOf l
+count-groups l groups x k p q r =
+    ap (λ (g : ℕ). 3 * g - k) p ∙ count-is l x k (q ∙ ap (λ (g : ℕ). groupOf l (g - 1)) p) r
+
+-- the positions of the last group that are past the count hold 31s
+module _ (m : List ℕ) (g : ℕ) (last : g ≡ length m / 14 - 1) (any : 0 < length m / 14) where
+  abbrev lastGroup : Group
+  lastGroup = groupOf m g
+
+  count-by : (k : ℕ) → k ≡ closingOf lastGroup → 3 * (length m / 14) - k ≡ countOf m
+  count-by k c = count-is m lastGroup k (ap (groupOf m) last) c
+
+  pub closing-third : countOf m ≤ 3 * g + 2 → lastGroup .third .register ≡ 31
+  closing-third h =
+      by-cases (eqb (lastGroup .third .register) 31) (λ t. eqb-true (lastGroup .third .register) 31 t)
+      (λ t. absurd (omega (arith, count-by 0 (closing-none lastGroup (eqb-false (lastGroup .third .register) 31 t)))))
+
+  pub closing-second : countOf m ≤ 3 * g + 1 → lastGroup .second .register ≡ 31
+  closing-second h =
+      by-cases (eqb (lastGroup .second .register) 31) (λ t. eqb-true (lastGroup .second .register) 31 t)
+      (λ t.
+      absurd (omega (
+        arith,
+        count-by 1 (closing-one lastGroup (closing-third (omega arith))
+            (eqb-false (lastGroup .second .register) 31 t)),
+      )))
 
 -- ---- the first that does not pass
 module _ (x : Group) where
@@ -323,3 +360,120 @@ module _ (l : List ℕ) (count : ℕ) (sound : Bool) where
       → r ≡ judgedFrom l count sound 0 (length l / 14)
   judged-past k h e r q =
       q ∙ ap (judgedPast l count sound) e ∙ sym (judged-start l count sound 0 refl ∙ lead-judged 0 (count / 3) (omega arith) (omega arith))
+
+-- ---- a last group with one or two entries
+closing-passes : (e : Entry) → e .register ≡ 31 → passes e ≡ true
+closing-passes e h = rw (eq-eqb (e .register) 31 h)
+
+closing-placed : (e : Entry) (place count : ℕ) → count ≤ place → eqb (e .word) 0 ≡ true → placed e place count ≡ true
+closing-placed e place count k h = rw (le-ltb place count k) h
+
+ends : (l : List ℕ) (count : ℕ) (sound : Bool) (g : ℕ) → g + 1 ≡ length l / 14 → sound ≡ true → 3 ≡ firstFailing (groupOf l g)
+    → true ≡ wellFormed (groupOf l g) (3 * g) count → judgedPast l count sound g ≡ report 0 0 (5 * count)
+ends l count sound g last s p f =
+    judged-goes l count sound g (omega arith) 3 (groupOf l g) true refl p (omega arith) f
+    ∙ judged-over l count (sound && true) (g + 1) (omega arith) true (and-true sound ∙ s)
+
+rest-cases : (a b c x y z : Bool) → cond a false (cond b x (cond c y z)) ≡ true
+    → (a ≡ false) × (b ≡ true → x ≡ true) × (b ≡ false → c ≡ true → y ≡ true) × (b ≡ false → c ≡ false → z ≡ true)
+rest-cases true b c x y z e = absurd (false≢true e)
+rest-cases false true c x y z e =
+    (refl, λ p. e, λ p q. absurd (false≢true (sym p)), λ p q. absurd (false≢true (sym p)))
+rest-cases false false true x y z e =
+    (refl, λ p. absurd (false≢true p), λ p q. e, λ p q. absurd (false≢true (sym q)))
+rest-cases false false false x y z e =
+    (refl, λ p. absurd (false≢true p), λ p q. absurd (false≢true q), λ p q. e)
+
+module _ (l : List ℕ) (n from : ℕ) (is : n ≡ countOf l) (any : 0 < length l / 14) (most : from ≤ n / 3) where
+  abbrev whole : Bool
+  whole = lastHasOne l n
+
+  abbrev lastOf : Group
+  lastOf = groupOf l (length l / 14 - 1)
+
+  over : n / 3 ≤ from → 3 * (length l / 14) ≡ n → judgedPast l n whole from ≡ report 0 0 (5 * n)
+  over h e = judged-over l n whole from (omega arith) true (lt-ltb (3 * (length l / 14)) (n + 3) (omega arith))
+
+  one-left : n / 3 ≤ from → n % 3 ≡ 1 → onePresent lastOf ≡ true → judgedPast l n whole from ≡ report 0 0 (5 * n)
+  one-left h e s =
+      let a = count-most l in
+      let b = count-least l in
+      let g : from ≡ length l / 14 - 1 = omega arith in
+      let x = groupOf l from in
+      let f = all-four (eqb (x .zero) 0) (entryLegal (x .first)) (eqb (x .second .word) 0) (eqb (x .third .word) 0)
+      (ap (λ (k : ℕ). onePresent (groupOf l k)) g ∙ s) in
+      ends l n whole from (omega arith) (lt-ltb (3 * (length l / 14)) (n + 3) (omega arith))
+      (none-fails x (legal-passes (x .first) (f .1)) (closing-passes (x .second) (closing-second l from g any (omega arith)))
+      (closing-passes (x .third) (closing-third l from g any (omega arith))))
+      (sym (four-all (eqb (x .zero) 0) (placed (x .first) (3 * from) n) (placed (x .second) (3 * from + 1) n)
+      (placed (x .third) (3 * from + 2) n)
+      (f .0) (legal-placed (x .first) (3 * from) n (omega arith) (f .1)) (closing-placed (x .second) (3 * from + 1) n (omega arith) (f .2))
+      (closing-placed (x .third) (3 * from + 2) n (omega arith) (f .3))))
+
+  two-left : n / 3 ≤ from → n % 3 ≡ 2 → twoPresent lastOf ≡ true → judgedPast l n whole from ≡ report 0 0 (5 * n)
+  two-left h e s =
+      let a = count-most l in
+      let b = count-least l in
+      let g : from ≡ length l / 14 - 1 = omega arith in
+      let x = groupOf l from in
+      let f = all-four (eqb (x .zero) 0) (entryLegal (x .first)) (entryLegal (x .second)) (eqb (x .third .word) 0)
+      (ap (λ (k : ℕ). twoPresent (groupOf l k)) g ∙ s) in
+      ends l n whole from (omega arith) (lt-ltb (3 * (length l / 14)) (n + 3) (omega arith))
+      (none-fails x (legal-passes (x .first) (f .1)) (legal-passes (x .second) (f .2))
+      (closing-passes (x .third) (closing-third l from g any (omega arith))))
+      (sym (four-all (eqb (x .zero) 0) (placed (x .first) (3 * from) n) (placed (x .second) (3 * from + 1) n)
+      (placed (x .third) (3 * from + 2) n)
+      (f .0) (legal-placed (x .first) (3 * from) n (omega arith) (f .1)) (legal-placed (x .second) (3 * from + 1) n (omega arith) (f .2))
+      (closing-placed (x .third) (3 * from + 2) n (omega arith) (f .3))))
+
+  pub rest-judged : restSound l n from ≡ true → judgedPast l n whole from ≡ report 0 0 (5 * n)
+  unfolding restSound
+  rest-judged e =
+      let c = rest-cases (ltb from (n / 3)) (eqb (n % 3) 0) (eqb (n % 3) 1) (eqb (3 * (length l / 14)) n) (onePresent lastOf)
+      (twoPresent lastOf) e in
+      let h = ltb-false from (n / 3) (c .0) in
+      by-cases (eqb (n % 3) 0) (λ t. over h (eqb-true (3 * (length l / 14)) n (c .1 t)))
+      (λ t.
+      by-cases (eqb (n % 3) 1) (λ u. one-left h (eqb-true (n % 3) 1 u) (c .2 t u))
+      (λ u.
+      let i = eqb-false (n % 3) 0 t in
+      let j = eqb-false (n % 3) 1 u in
+      two-left h (omega (arith, i, j)) (c .3 t u)))
+
+-- ---- the tests, as the code makes them
+module _ (x : Group) where
+  pub full-zero : (x .zero ≡ 0 → ⊥) → false ≡ fullGroup x
+  full-zero h = rw (ne-eqb (x .zero) 0 h)
+
+  pub full-first : x .zero ≡ 0 → entryLegal (x .first) ≡ false → false ≡ fullGroup x
+  full-first z a = rw (eq-eqb (x .zero) 0 z, a)
+
+  pub full-second : x .zero ≡ 0 → entryLegal (x .first) ≡ true → entryLegal (x .second) ≡ false → false ≡ fullGroup x
+  full-second z a b = rw (eq-eqb (x .zero) 0 z, a, b)
+
+  pub full-third : x .zero ≡ 0 → entryLegal (x .first) ≡ true → entryLegal (x .second) ≡ true → entryLegal (x .third) ≡ fullGroup x
+  full-third z a b = rw (eq-eqb (x .zero) 0 z, a, b)
+
+module _ (l : List ℕ) (n from : ℕ) where
+  pub rest-early : from < n / 3 → false ≡ restSound l n from
+  unfolding restSound
+  rest-early h = rw (lt-ltb from (n / 3) h)
+
+  pub rest-none : n / 3 ≤ from → n % 3 ≡ 0 → (groups : ℕ) → groups ≡ length l / 14 → eqb (3 * groups) n ≡ restSound l n from
+  unfolding restSound
+  rest-none h e groups q =
+      rw (le-ltb from (n / 3) h, eq-eqb (n % 3) 0 e) (ap (λ (g : ℕ). eqb (3 * g) n) q)
+
+  module _ (groups : ℕ) (q : groups ≡ length l / 14) (x : Group) (is : x ≡ groupOf l (groups - 1)) (t : Bool) where
+    last-is : x ≡ groupOf l (length l / 14 - 1)
+    last-is = is ∙ ap (λ (g : ℕ). groupOf l (g - 1)) q
+
+    pub rest-one : n / 3 ≤ from → n % 3 ≡ 1 → t ≡ onePresent x → t ≡ restSound l n from
+    unfolding restSound
+    rest-one h e p =
+        rw (le-ltb from (n / 3) h, ne-eqb (n % 3) 0 (λ z. omega arith), eq-eqb (n % 3) 1 e) (p ∙ ap (λ (y : Group). onePresent y) last-is)
+
+    pub rest-two : n / 3 ≤ from → (n % 3 ≡ 0 → ⊥) → (n % 3 ≡ 1 → ⊥) → t ≡ twoPresent x → t ≡ restSound l n from
+    unfolding restSound
+    rest-two h a b p =
+        rw (le-ltb from (n / 3) h, ne-eqb (n % 3) 0 a, ne-eqb (n % 3) 1 b) (p ∙ ap (λ (y : Group). twoPresent y) last-is)

@@ -14,16 +14,15 @@ use Rattle.entries.specs.Layout.{entryOf}
 use Rattle.entries.specs.Legality.{entryLegal}
 use Rattle.entries.specs.declared.decoding.Entry.{Entry}
 use Rattle.packing.specs.Editions.{entryBytes, groupBytes, missing, orMissing, groupsFor, packedOf, listOf}
-use Rattle.packing.specs.Groups.{wordAt, headAt, groupOf, positionOf, closingOf, countOf}
+use Rattle.packing.specs.Groups.{wordAt, headAt, groupOf, positionOf, countOf}
 use Rattle.packing.specs.Reports.{report}
 use Rattle.packing.specs.Conversions.{nowhere, holds, judgedBy, packReport, passes, placed, wellFormed, judgement, lastHasOne}
 use Rattle.packing.specs.Conversions.{unpackReport}
 use Rattle.packing.specs.Conversions.{convertedTo, packOf, unpackOf}
 use Rattle.packing.specs.RoundTrip.{Bytes, LegalList, done, ComesBack, OneForm, Sizes}
-use Rattle.packing.specs.declared.groups.Group.{Group}
 use Rattle.packing.proofs.Runs.{strung-agree}
 use Rattle.packing.proofs.Puts.{position-first, position-second, position-third}
-use Rattle.packing.proofs.Judges.{closing-none, closing-one, count-is, count-most, legal-real, legal-spare, legal-passes}
+use Rattle.packing.proofs.Judges.{closing-third, closing-second, count-most, legal-real, legal-spare, legal-passes}
 use Rattle.packing.proofs.Judges.{legal-placed, all-four, four-all}
 use Rattle.packing.proofs.Answers.{packSize, pack-judged, unpackSize, unpack-judged, illegalOf, sound, failingOf, Unpacks}
 use Rattle.packing.proofs.Answers.{unpacks, list-size, packed-size}
@@ -62,9 +61,10 @@ pub unpacks-to : (m : List ℕ) (room : ℕ) → length m % 14 ≡ 0 → countOf
     → failingOf m ≡ nowhere → sound m ≡ true
     → unpackReport m room ≡ report 0 0 (5 * countOf m)
 unpacks-to m room whole fits some few legal formed =
-    let size : unpackSize m room (countOf m) ≡ false = rw (eq-eqb (length m % 14) 0 whole, le-ltb (room / 5) (countOf m) fits) in
+    let size : unpackSize m room (length m / 14) refl (countOf m) refl ≡ false =
+    rw (eq-eqb (14 * (length m / 14)) (length m) (omega arith), le-ltb (room / 5) (countOf m) fits) in
     sym
-    (unpack-judged m room (countOf m) refl size some few (report 0 0 (5 * countOf m))
+    (unpack-judged m room (length m / 14) refl (countOf m) refl size some few (report 0 0 (5 * countOf m))
     (sym (ap (judgement (countOf m) (sound m)) legal ∙ ap (λ (t : Bool). cond t (report 0 0 (5 * countOf m)) (report 10 0 0)) formed)))
 
 -- ---- a legal list comes back
@@ -247,33 +247,19 @@ module _ (m : List ℕ) (b : Bytes m) (room written : ℕ) (u : Unpacks m room w
 
   -- the positions past the count hold 31s
   module _ (g : ℕ) (last : g ≡ groups - 1) (any : 0 < groups) where
-    abbrev x : Group
-    x = groupOf m g
-
-    count-by : (k : ℕ) → k ≡ closingOf x → 3 * groups - k ≡ n
-    count-by k c = count-is m x k (ap (groupOf m) last) c
-
-    closing-third : n ≤ 3 * g + 2 → x .third .register ≡ 31
-    closing-third h =
-        by-cases (eqb (x .third .register) 31) (λ t. eqb-true (x .third .register) 31 t)
-        (λ t. absurd (omega (arith, count-by 0 (closing-none x (eqb-false (x .third .register) 31 t)))))
-
-    closing-second : n ≤ 3 * g + 1 → x .second .register ≡ 31
-    closing-second h =
-        by-cases (eqb (x .second .register) 31) (λ t. eqb-true (x .second .register) 31 t)
-        (λ t. absurd (omega (arith, count-by 1 (closing-one x (closing-third (omega arith)) (eqb-false (x .second .register) 31 t)))))
-
     closed : (p : ℕ) → n ≤ p → p < 3 * groups → positionOf m p .register ≡ 31
     closed p h k =
         let far = near in
         by-cases (eqb p (3 * g + 2))
         (λ t.
         let q = eqb-true p (3 * g + 2) t in
-        ap (λ (i : ℕ). positionOf m i .register) q ∙ ap (λ (y : Entry). y .register) (position-third m g) ∙ closing-third (omega arith))
+        ap (λ (i : ℕ). positionOf m i .register) q ∙ ap (λ (y : Entry). y .register) (position-third m g)
+        ∙ closing-third m g last any (omega arith))
         (λ t.
         let d = eqb-false p (3 * g + 2) t in
         let q : p ≡ 3 * g + 1 = omega (arith, d) in
-        ap (λ (i : ℕ). positionOf m i .register) q ∙ ap (λ (y : Entry). y .register) (position-second m g) ∙ closing-second (omega arith))
+        ap (λ (i : ℕ). positionOf m i .register) q ∙ ap (λ (y : Entry). y .register) (position-second m g)
+        ∙ closing-second m g last any (omega arith))
 
   any-groups : 0 < groups
   any-groups = let w = u .whole in let s = u .some in omega (arith, s)

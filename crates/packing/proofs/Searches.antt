@@ -36,6 +36,12 @@ pub lead-goes : (f : ℕ → Bool) (p n m : ℕ) → n ≡ m + 1 → f p ≡ tru
 unfolding leading
 lead-goes f p n m h e = rw (h, add-one m, add-one p, e)
 
+pub lead-most : (f : ℕ → Bool) (p n : ℕ) → leading f p n ≤ p + n
+unfolding leading
+lead-most f p zero = omega arith
+lead-most f p (suc n) =
+    by-cases (f p) (λ t. rw t (omega (arith, lead-most f (suc p) n))) (λ t. rw t (omega arith))
+
 -- ---- all of them
 pub none-found : (f : ℕ → Bool) (p n : ℕ) → ((q : ℕ) → p ≤ q → q < p + n → f q ≡ true) → firstNot f p n ≡ nowhere
 unfolding firstNot

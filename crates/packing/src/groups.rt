@@ -75,11 +75,11 @@ fn closing(x: Group) -> usize
     3
 }
 
-// The number of entries.
-pub fn count_of(list: &[u8]) -> usize
+// The number of entries of a file of so many groups.
+pub fn count_of(list: &[u8], groups: usize) -> usize
+    requires { ⌜ groups ≡ length (now list) / 14 ⌝ }
     ensures { λ r. ⌜ r ≡ countOf (now (list .entry)) ⌝ }
 {
-    let groups = list.len() / 14;
     if groups == 0 {
         return 0;
     }

@@ -1,11 +1,12 @@
 // What a conversion answers, before it writes.
 ghost use mathlib.Core.Path.{_≡_};
-ghost use Prim.Native.Nat.{_+_, _/_, _≤_};
+ghost use Prim.Native.Nat.{_+_, _/_, _<_, _≤_};
 ghost use lib.ListN.{length};
 ghost use Rattle.packing.specs.Reports.{reportOf};
-ghost use Rattle.packing.specs.Groups.{groupOf};
+ghost use Rattle.packing.specs.Groups.{groupOf, countOf};
 ghost use Rattle.packing.specs.Conversions.{legalityOf, packReport};
-ghost use Rattle.packing.specs.Conversions.{passes, firstFailing, placed, wellFormed, judgedPast, fullGroup, leading, unpackReport};
+ghost use Rattle.packing.specs.Conversions.{passes, firstFailing, placed, wellFormed, judgedPast, judgedWhole, unpackReport};
+ghost use Rattle.packing.specs.Conversions.{fullGroup, leading, onePresent, twoPresent, restSound};
 use crate::groups::Group;
 use crate::groups::count_of;
 use crate::groups::group_at;
@@ -129,10 +130,16 @@ fn judge_groups(list: &[u8], count: usize, start: bool, from: usize) -> Status
 fn full(x: Group) -> bool
     ensures { λ r. ⌜ r ≡ fullGroup x ⌝ }
 {
-    let a = legal_entry(x.first.register, x.first.spare, x.first.word);
-    let b = legal_entry(x.second.register, x.second.spare, x.second.word);
-    let c = legal_entry(x.third.register, x.third.spare, x.third.word);
-    (x.zero == 0) & a & b & c
+    if x.zero != 0 {
+        return false;
+    }
+    if !legal_entry(x.first.register, x.first.spare, x.first.word) {
+        return false;
+    }
+    if !legal_entry(x.second.register, x.second.spare, x.second.word) {
+        return false;
+    }
+    legal_entry(x.third.register, x.third.spare, x.third.word)
 }
 
 // How many groups are full before the first that is not, at most `most`.
@@ -153,12 +160,61 @@ fn full_groups(list: &[u8], most: usize) -> usize
     }
 }
 
+// The zero bit zero, a legal entry, and no data after it.
+fn one_present(x: Group) -> bool
+    ensures { λ r. ⌜ r ≡ onePresent x ⌝ }
+{
+    let a = legal_entry(x.first.register, x.first.spare, x.first.word);
+    (x.zero == 0) & a & (x.second.word == 0) & (x.third.word == 0)
+}
+
+// The zero bit zero, two legal entries, and no data after them.
+fn two_present(x: Group) -> bool
+    ensures { λ r. ⌜ r ≡ twoPresent x ⌝ }
+{
+    let a = legal_entry(x.first.register, x.first.spare, x.first.word);
+    let b = legal_entry(x.second.register, x.second.spare, x.second.word);
+    (x.zero == 0) & a & b & (x.third.word == 0)
+}
+
+// Whether nothing is left after `from` full groups but the entries of a last group that is sound.
+fn rest_sound(list: &[u8], groups: usize, count: usize, from: usize) -> bool
+    requires { ⌜ (groups ≡ length (now list) / 14) × (0 < groups) ⌝ }
+    ensures { λ r. ⌜ r ≡ restSound (now (list .entry)) count from ⌝ }
+{
+    if from < count / 3 {
+        return false;
+    }
+    let left = count % 3;
+    if left == 0 {
+        return 3 * groups == count;
+    }
+    let x = group_at(list, groups - 1);
+    if left == 1 {
+        return one_present(x);
+    }
+    two_present(x)
+}
+
+// The full groups first, which a sound file is made of but for the end; where it is not, group by group.
+fn judge(list: &[u8], groups: usize, count: usize) -> Status
+    requires { ⌜ (groups ≡ length (now list) / 14) × (0 < groups) × (count ≡ countOf (now list)) × (count ≤ 4096) ⌝ }
+    ensures { λ r. ⌜ reportOf r ≡ judgedWhole (now (list .entry)) count ⌝ }
+{
+    let from = full_groups(list, count / 3);
+    if rest_sound(list, groups, count, from) {
+        return Status::Done(5 * count);
+    }
+    judge_groups(list, count, 3 * groups < count + 3, from)
+}
+
 // What unpacking into `room` bytes answers.
 pub fn unpack_status(input: &[u8], room: usize) -> Status
     ensures { λ r. ⌜ reportOf r ≡ unpackReport (now (input .entry)) room ⌝ }
 {
-    let count = count_of(input);
-    if (input.len() % 14 != 0) | (room / 5 < count) {
+    let groups = input.len() / 14;
+    let count = count_of(input, groups);
+    if (14 * groups != input.len()) | (room / 5 < count) {
         return Status::WrongSize;
     }
     if input.len() == 0 {
@@ -167,7 +223,5 @@ pub fn unpack_status(input: &[u8], room: usize) -> Status
     if 4096 < count {
         return Status::TooMany;
     }
-    // Full groups are sound before the count; what is left is often the last group alone.
-    let from = full_groups(input, count / 3);
-    judge_groups(input, count, 3 * (input.len() / 14) < count + 3, from)
+    judge(input, groups, count)
 }
