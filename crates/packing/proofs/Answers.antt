@@ -19,8 +19,8 @@ use Rattle.packing.specs.Reports.{Report, report, reportOf}
 use Rattle.packing.specs.Conversions.{Found, failsAt, nowhere, firstNot, holds, refusedOr, judgedBy, legalityOf, packReport}
 use Rattle.packing.specs.Conversions.{passes, wellFormed, judgement, lastHasOne, judgedWhole, unpackReport}
 use Rattle.packing.specs.Conversions.{converted, convertedTo, packOf, unpackOf}
-use Rattle.packing.specs.declared.statuses.Status.{Status}
-use Rattle.packing.specs.declared.statuses.Status.the-variants.{Done, WrongSize, NoEntries, TooMany, IllegalEntry, Malformed}
+use Rattle.packing.specs.declared.statuses.FileStatus.{FileStatus}
+use Rattle.packing.specs.declared.statuses.FileStatus.the-variants.{Done, WrongSize, NoEntries, TooMany, IllegalEntry, MalformedFile}
 use Rattle.packing.proofs.Runs.{sets-front, length-strung}
 use Rattle.packing.proofs.Puts.{entry-length, group-length, packed-is}
 use Rattle.packing.proofs.Judges.{count-most}
@@ -200,27 +200,27 @@ packed-size e n =
     (λ g. group-length (o (3 * g)) (o (3 * g + 1)) (o (3 * g + 2))) (groupsFor n)
 
 -- ---- a status is done, or nothing is written
-abbrev isDone : Status → Bool
+abbrev isDone : FileStatus → Bool
 isDone a = eqb (reportOf a .number) 0
 
-done-is : (a : Status) → isDone a ≡ true → reportOf a ≡ report 0 0 (reportOf a .written)
+done-is : (a : FileStatus) → isDone a ≡ true → reportOf a ≡ report 0 0 (reportOf a .written)
 done-is (Done n) t = refl
 done-is WrongSize t = absurd (false≢true t)
 done-is NoEntries t = absurd (false≢true t)
 done-is TooMany t = absurd (false≢true t)
 done-is (IllegalEntry k) t = absurd (false≢true t)
-done-is Malformed t = absurd (false≢true t)
+done-is MalformedFile t = absurd (false≢true t)
 
-refused-is : (a : Status) → isDone a ≡ false → reportOf a .written ≡ 0
+refused-is : (a : FileStatus) → isDone a ≡ false → reportOf a .written ≡ 0
 refused-is (Done n) t = absurd (false≢true (sym t))
 refused-is WrongSize t = refl
 refused-is NoEntries t = refl
 refused-is TooMany t = refl
 refused-is (IllegalEntry k) t = refl
-refused-is Malformed t = refl
+refused-is MalformedFile t = refl
 
 -- the report and the output together, from both cases
-conversion : (a : Status) (r : Report) (m new out : List ℕ) → reportOf a ≡ r
+conversion : (a : FileStatus) (r : Report) (m new out : List ℕ) → reportOf a ≡ r
     → (isDone a ≡ true → m ≡ new ++ drop (reportOf a .written) out) → (isDone a ≡ false → m ≡ out)
     → converted a m ≡ convertedTo new out r
 conversion a r m new out e p q =
@@ -229,7 +229,7 @@ conversion a r m new out e p q =
     ∙ ap (convertedTo new out) e
 
 -- ---- what packing leaves; w are the bytes that the status says
-pub pack-room : (l : List ℕ) (room w : ℕ) (a : Status) → reportOf a ≡ packReport l room → w ≡ reportOf a .written
+pub pack-room : (l : List ℕ) (room w : ℕ) (a : FileStatus) → reportOf a ≡ packReport l room → w ≡ reportOf a .written
     → w / 14 ≤ room / 14
 pack-room l room w a e f =
     by-cases (isDone a)
@@ -252,7 +252,7 @@ all-groups l m out w n p f g =
     ∙ sets-front (packedOf (entryOf l) s) out (omega arith)
     ∙ ap (λ (j : ℕ). packedOf (entryOf l) s ++ drop j out) (size ∙ sym b)
 
-pub pack-leaves : (l out m : List ℕ) (w : ℕ) (a : Status) → reportOf a ≡ packReport l (length out) → w ≡ reportOf a .written
+pub pack-leaves : (l out m : List ℕ) (w : ℕ) (a : FileStatus) → reportOf a ≡ packReport l (length out) → w ≡ reportOf a .written
     → m ≡ sets out 0 (strung (packedGroup l) (w / 14)) → converted a m ≡ packOf l out
 unfolding packOf
 pack-leaves l out m w a e f g =
@@ -262,7 +262,7 @@ pack-leaves l out m w a e f g =
     (λ t. no-groups l m out w (f ∙ refused-is a t) g)
 
 -- ---- and unpacking
-pub unpack-room : (l : List ℕ) (room w : ℕ) (a : Status) → reportOf a ≡ unpackReport l room → w ≡ reportOf a .written
+pub unpack-room : (l : List ℕ) (room w : ℕ) (a : FileStatus) → reportOf a ≡ unpackReport l room → w ≡ reportOf a .written
     → (w / 5 ≤ room / 5) × (w / 5 ≤ 3 * (length l / 14))
 unpack-room l room w a e f =
     by-cases (isDone a)
@@ -290,7 +290,7 @@ all-entries l m out w n p f g =
     ∙ sets-front (listOf (positionOf l) s) out (omega arith)
     ∙ ap (λ (j : ℕ). listOf (positionOf l) s ++ drop j out) (size ∙ sym b)
 
-pub unpack-leaves : (l out m : List ℕ) (w : ℕ) (a : Status) → reportOf a ≡ unpackReport l (length out) → w ≡ reportOf a .written
+pub unpack-leaves : (l out m : List ℕ) (w : ℕ) (a : FileStatus) → reportOf a ≡ unpackReport l (length out) → w ≡ reportOf a .written
     → m ≡ sets out 0 (listOf (positionOf l) (w / 5)) → converted a m ≡ unpackOf l out
 unfolding unpackOf
 unpack-leaves l out m w a e f g =

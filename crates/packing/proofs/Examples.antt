@@ -5,7 +5,7 @@ use Rattle.entries.specs.Legality.{dataLegal, cmdLegal, pctrlLegal}
 use Rattle.packing.specs.Editions.{strung, entryBytes, groupBytes}
 use Rattle.packing.specs.Groups.{slotOf, closingOf, countOf}
 use Rattle.packing.specs.Conversions.{firstNot, holds, packReport, unpackReport, packOf, unpackOf}
-use Rattle.packing.specs.Examples.{OneEntry, ThreeEntries, Refused, Malformed, IllegalFirst}
+use Rattle.packing.specs.Examples.{OneEntry, ThreeEntries, Refused, MalformedFiles, IllegalFirst}
 
 pub one-entry : OneEntry
 unfolding dataLegal strung entryBytes groupBytes slotOf closingOf countOf firstNot holds packReport unpackReport packOf unpackOf
@@ -19,9 +19,9 @@ pub refused : Refused
 unfolding dataLegal cmdLegal pctrlLegal slotOf closingOf countOf firstNot holds packReport unpackReport unpackOf
 refused = (refl, refl, refl, refl, refl, refl, refl, refl)
 
-pub malformed : Malformed
+pub malformed-files : MalformedFiles
 unfolding dataLegal slotOf closingOf countOf firstNot holds unpackReport
-malformed = (refl, refl, refl, refl, refl)
+malformed-files = (refl, refl, refl, refl, refl)
 
 pub illegal-first : IllegalFirst
 unfolding dataLegal cmdLegal pctrlLegal slotOf closingOf countOf firstNot unpackReport

@@ -11,7 +11,7 @@ use Rattle.packing.specs.Editions.{listOf, groupsFor, packedOf}
 use Rattle.packing.specs.Groups.{groupOf, positionOf, countOf}
 use Rattle.packing.specs.Reports.{Report, report, reportOf}
 use Rattle.packing.specs.declared.groups.Group.{Group}
-use Rattle.packing.specs.declared.statuses.Status.{Status}
+use Rattle.packing.specs.declared.statuses.FileStatus.{FileStatus}
 
 -- The first place, of n from p on, at which a test fails; and whether it holds at them all.
 pub data Found : Type 0 where
@@ -91,7 +91,7 @@ pub record Converted : Type 0 where
   pub report : Report
   pub output : List ℕ
 
-abbrev pub converted : Status → List ℕ → Converted
+abbrev pub converted : FileStatus → List ℕ → Converted
 converted status output = record { report = reportOf status; output = output }
 
 abbrev pub outputBy : Report → List ℕ → List ℕ → List ℕ

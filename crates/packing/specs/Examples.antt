@@ -40,8 +40,8 @@ Refused =
 
 -- "10 for a wrong zero bit, a misplaced 31 or its data not zero": the zero bit 1, a last 31 with data, 31s alone in the last
 -- group, a 31 before an entry, and one in a group that is not the last.
-abbrev pub Malformed : Type 0
-Malformed =
+abbrev pub MalformedFiles : Type 0
+MalformedFiles =
     (unpackReport (group 135 255 7 0 0) 5 ≡ report 10 0 0)
     × (unpackReport (group 7 255 7 0 1) 5 ≡ report 10 0 0)
     × (unpackReport (group 127 255 0 0 0) 0 ≡ report 10 0 0)

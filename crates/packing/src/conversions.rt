@@ -3,12 +3,12 @@ ghost use mathlib.Core.Path.{_≡_};
 ghost use Rattle.packing.specs.Conversions.{converted, packOf, unpackOf};
 use crate::judging::pack_status;
 use crate::judging::unpack_status;
-use crate::statuses::Status;
+use crate::statuses::FileStatus;
 use crate::writing::write_entries;
 use crate::writing::write_groups;
 
 // Edition 1 to edition 2. In a refusal nothing is written.
-pub fn pack(input: &[u8], output: &mut [u8]) -> Status
+pub fn pack(input: &[u8], output: &mut [u8]) -> FileStatus
     ensures { λ r. ⌜ converted r (now (output .exit)) ≡ packOf (now (input .entry)) (now (output .entry)) ⌝ }
 {
     let status = pack_status(input, output.len());
@@ -18,7 +18,7 @@ pub fn pack(input: &[u8], output: &mut [u8]) -> Status
 }
 
 // Edition 2 to edition 1. In a refusal nothing is written.
-pub fn unpack(input: &[u8], output: &mut [u8]) -> Status
+pub fn unpack(input: &[u8], output: &mut [u8]) -> FileStatus
     ensures { λ r. ⌜ converted r (now (output .exit)) ≡ unpackOf (now (input .entry)) (now (output .entry)) ⌝ }
 {
     let status = unpack_status(input, output.len());

@@ -7,7 +7,7 @@ use entries::Entry;
 use entries::join;
 
 // The zero bit, and three entries.
-pub struct Group {
+pub(crate) struct Group {
     pub zero: u32,
     pub first: Entry,
     pub second: Entry,
@@ -30,7 +30,7 @@ fn word_at(list: &[u8], at: usize) -> u32
 }
 
 // Group g.
-pub fn group_at(list: &[u8], g: usize) -> Group
+pub(crate) fn group_at(list: &[u8], g: usize) -> Group
     requires { ⌜ g < length (now list) / 14 ⌝ }
     ensures { λ r. ⌜ r ≡ groupOf (now (list .entry)) g ⌝ }
 {
@@ -76,7 +76,7 @@ fn closing(x: Group) -> usize
 }
 
 // The number of entries of a file of so many groups.
-pub fn count_of(list: &[u8], groups: usize) -> usize
+pub(crate) fn count_of(list: &[u8], groups: usize) -> usize
     requires { ⌜ groups ≡ length (now list) / 14 ⌝ }
     ensures { λ r. ⌜ r ≡ countOf (now (list .entry)) ⌝ }
 {

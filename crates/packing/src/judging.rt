@@ -10,41 +10,41 @@ ghost use Rattle.packing.specs.Conversions.{fullGroup, leading, onePrese
 use crate::groups::Group;
 use crate::groups::count_of;
 use crate::groups::group_at;
-use crate::statuses::Status;
+use crate::statuses::FileStatus;
 use entries::Entry;
 use entries::legal_at;
 use entries::legal_entry;
 
 // The first illegal entry of an edition 1 list, entry by entry.
-fn judge_entries(list: &[u8]) -> Status
+fn judge_entries(list: &[u8]) -> FileStatus
     ensures { λ r. ⌜ reportOf r ≡ legalityOf (now (list .entry)) ⌝ }
 {
     let count = list.len() / 5;
     let mut place: usize = 0;
     loop {
         if count <= place {
-            break Status::Done(14 * ((count + 2) / 3));
+            break FileStatus::Done(14 * ((count + 2) / 3));
         }
         if !legal_at(list, place) {
-            break Status::IllegalEntry(place);
+            break FileStatus::IllegalEntry(place);
         }
         place += 1;
     }
 }
 
 // What packing into `room` bytes answers.
-pub fn pack_status(input: &[u8], room: usize) -> Status
+pub(crate) fn pack_status(input: &[u8], room: usize) -> FileStatus
     ensures { λ r. ⌜ reportOf r ≡ packReport (now (input .entry)) room ⌝ }
 {
     let count = input.len() / 5;
     if (input.len() % 5 != 0) | (room / 14 < (count + 2) / 3) {
-        return Status::WrongSize;
+        return FileStatus::WrongSize;
     }
     if input.len() == 0 {
-        return Status::NoEntries;
+        return FileStatus::NoEntries;
     }
     if 4096 < count {
-        return Status::TooMany;
+        return FileStatus::TooMany;
     }
     judge_entries(input)
 }
@@ -100,7 +100,7 @@ fn well_formed(x: Group, place: usize, count: usize) -> bool
 }
 
 // Group by group from group `from` on, the first illegal entry and whether all is well formed.
-fn judge_groups(list: &[u8], count: usize, start: bool, from: usize) -> Status
+fn judge_groups(list: &[u8], count: usize, start: bool, from: usize) -> FileStatus
     requires { ⌜ count ≤ 4096 ⌝ }
     ensures { λ r. ⌜ reportOf r ≡ judgedPast (now (list .entry)) count start from ⌝ }
 {
@@ -110,16 +110,16 @@ fn judge_groups(list: &[u8], count: usize, start: bool, from: usize) -> Status
     loop {
         if groups <= g {
             break if sound {
-                Status::Done(5 * count)
+                FileStatus::Done(5 * count)
             } else {
-                Status::Malformed
+                FileStatus::MalformedFile
             };
         }
         let x = group_at(list, g);
         let failing = first_failing(x);
         let good = well_formed(x, 3 * g, count);
         if failing < 3 {
-            break Status::IllegalEntry(3 * g + failing);
+            break FileStatus::IllegalEntry(3 * g + failing);
         }
         sound = sound & good;
         g += 1;
@@ -197,31 +197,31 @@ fn rest_sound(list: &[u8], groups: usize, count: usize, from: usize) -> bool
 }
 
 // The full groups first, which a sound file is made of but for the end; where it is not, group by group.
-fn judge(list: &[u8], groups: usize, count: usize) -> Status
+fn judge(list: &[u8], groups: usize, count: usize) -> FileStatus
     requires { ⌜ (groups ≡ length (now list) / 14) × (0 < groups) × (count ≡ countOf (now list)) × (count ≤ 4096) ⌝ }
     ensures { λ r. ⌜ reportOf r ≡ judgedWhole (now (list .entry)) count ⌝ }
 {
     let from = full_groups(list, count / 3);
     if rest_sound(list, groups, count, from) {
-        return Status::Done(5 * count);
+        return FileStatus::Done(5 * count);
     }
     judge_groups(list, count, 3 * groups < count + 3, from)
 }
 
 // What unpacking into `room` bytes answers.
-pub fn unpack_status(input: &[u8], room: usize) -> Status
+pub(crate) fn unpack_status(input: &[u8], room: usize) -> FileStatus
     ensures { λ r. ⌜ reportOf r ≡ unpackReport (now (input .entry)) room ⌝ }
 {
     let groups = input.len() / 14;
     let count = count_of(input, groups);
     if (14 * groups != input.len()) | (room / 5 < count) {
-        return Status::WrongSize;
+        return FileStatus::WrongSize;
     }
     if input.len() == 0 {
-        return Status::NoEntries;
+        return FileStatus::NoEntries;
     }
     if 4096 < count {
-        return Status::TooMany;
+        return FileStatus::TooMany;
     }
     judge(input, groups, count)
 }

@@ -7,4 +7,4 @@ mod writing;
 
 pub use conversions::pack;
 pub use conversions::unpack;
-pub use statuses::Status;
+pub use statuses::FileStatus;

@@ -3,7 +3,7 @@ ghost use mathlib.Core.Path.{_≡_};
 ghost use Rattle.packing.specs.Reports.{reportOf};
 
 // The outcome of a conversion, with what belongs to it.
-pub enum Status {
+pub enum FileStatus {
     // Done, with the bytes written.
     Done(usize),
     WrongSize,
@@ -11,21 +11,21 @@ pub enum Status {
     TooMany,
     // The place of the first illegal entry.
     IllegalEntry(usize),
-    Malformed,
+    MalformedFile,
 }
 
-impl Status {
+impl FileStatus {
     // The papers' number.
     pub fn number(self) -> u32
         ensures { λ r. ⌜ r ≡ reportOf self .number ⌝ }
     {
         match self {
-            Status::Done(_) => 0,
-            Status::WrongSize => 2,
-            Status::NoEntries => 3,
-            Status::TooMany => 4,
-            Status::IllegalEntry(_) => 6,
-            Status::Malformed => 10,
+            FileStatus::Done(_) => 0,
+            FileStatus::WrongSize => 2,
+            FileStatus::NoEntries => 3,
+            FileStatus::TooMany => 4,
+            FileStatus::IllegalEntry(_) => 6,
+            FileStatus::MalformedFile => 10,
         }
     }
 
@@ -34,12 +34,12 @@ impl Status {
         ensures { λ r. ⌜ r ≡ reportOf self .place ⌝ }
     {
         match self {
-            Status::Done(_) => 0,
-            Status::WrongSize => 0,
-            Status::NoEntries => 0,
-            Status::TooMany => 0,
-            Status::IllegalEntry(place) => place,
-            Status::Malformed => 0,
+            FileStatus::Done(_) => 0,
+            FileStatus::WrongSize => 0,
+            FileStatus::NoEntries => 0,
+            FileStatus::TooMany => 0,
+            FileStatus::IllegalEntry(place) => place,
+            FileStatus::MalformedFile => 0,
         }
     }
 
@@ -48,12 +48,12 @@ impl Status {
         ensures { λ r. ⌜ r ≡ reportOf self .written ⌝ }
     {
         match self {
-            Status::Done(bytes) => bytes,
-            Status::WrongSize => 0,
-            Status::NoEntries => 0,
-            Status::TooMany => 0,
-            Status::IllegalEntry(_) => 0,
-            Status::Malformed => 0,
+            FileStatus::Done(bytes) => bytes,
+            FileStatus::WrongSize => 0,
+            FileStatus::NoEntries => 0,
+            FileStatus::TooMany => 0,
+            FileStatus::IllegalEntry(_) => 0,
+            FileStatus::MalformedFile => 0,
         }
     }
 }

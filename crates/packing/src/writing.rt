@@ -120,7 +120,7 @@ fn put_packed(list: &[u8], out: &mut [u8], g: usize)
 }
 
 // The first groups of an edition 1 list.
-pub fn write_groups(list: &[u8], out: &mut [u8], groups: usize)
+pub(crate) fn write_groups(list: &[u8], out: &mut [u8], groups: usize)
     requires { ⌜ groups ≤ length (now out) / 14 ⌝ }
     ensures { λ _. ⌜ now (out .exit) ≡ sets (now (out .entry)) 0 (strung (packedGroup (now (list .entry))) groups) ⌝ }
 {
@@ -132,7 +132,7 @@ pub fn write_groups(list: &[u8], out: &mut [u8], groups: usize)
 }
 
 // The first entries of an edition 2 input.
-pub fn write_entries(list: &[u8], out: &mut [u8], count: usize)
+pub(crate) fn write_entries(list: &[u8], out: &mut [u8], count: usize)
     requires { ⌜ (count ≤ length (now out) / 5) × (count ≤ 3 * (length (now list) / 14)) ⌝ }
     ensures { λ _. ⌜ now (out .exit) ≡ sets (now (out .entry)) 0 (listOf (positionOf (now (list .entry))) count) ⌝ }
 {
