@@ -4,7 +4,7 @@
  * Every function takes every number, every record and memories of every length, and has one outcome for each of them; no
  * call stops, allocates or keeps a pointer. The library has no state of its own, so separate boards may run on separate
  * threads at once. From outside it needs memmove and memset alone. What only the caller can see to:
- *  - board, place and steps are not null, are aligned, and point to one value each;
+ *  - board, place, steps and written are not null, are aligned, and point to one value each;
  *  - a length is what its pointer really has behind it; with a length of 0 any pointer will do, NULL too;
  *  - nothing that one pointer of a call lends for writing overlaps what another pointer of that call lends, and no other
  *    thread touches any of it during the call.
@@ -23,9 +23,9 @@
 #include <stdint.h>
 
 #define PRAMOLYT_VERSION_MAJOR 0
-#define PRAMOLYT_VERSION_MINOR 4
+#define PRAMOLYT_VERSION_MINOR 5
 #define PRAMOLYT_VERSION_PATCH 0
-#define PRAMOLYT_VERSION "0.4.0"
+#define PRAMOLYT_VERSION "0.5.0"
 
 /* The edition of the record and of the calls' arguments. The archive's symbols carry it, so that a program compiled with a
  * header of another edition does not link. In C and C++ one writes the names without it. */
@@ -35,6 +35,8 @@
 #define pramolyt_store pramolyt_store_r1
 #define pramolyt_window_write pramolyt_window_write_r1
 #define pramolyt_run pramolyt_run_r1
+#define pramolyt_pack pramolyt_pack_r1
+#define pramolyt_unpack pramolyt_unpack_r1
 
 #ifdef __cplusplus
 extern "C" {
@@ -48,13 +50,21 @@ enum {
                                     calls. The test looks at the record alone; not every change is seen */
     PRAMOLYT_WRONG_SIZE = 2,     /* a size or a length is wrong, or a buffer number; each call says which */
     PRAMOLYT_NO_ENTRIES = 3,     /* a list of no entries */
-    PRAMOLYT_PAST_THE_END = 4,   /* a span passes the end of its memory */
+    PRAMOLYT_PAST_THE_END = 4,   /* a span passes the end of its memory; of pack and unpack: more than 4096 entries */
     PRAMOLYT_SLOTS_FULL = 5,     /* both slots are taken */
     PRAMOLYT_ILLEGAL_ENTRY = 6,  /* the list has an illegal entry; *place is the first one */
     PRAMOLYT_BUSY = 7,           /* a window write while a slot is taken */
     PRAMOLYT_ENTRY_HELD = 8,     /* a store touches an entry of a list in a slot */
-    PRAMOLYT_ILLEGAL_FETCH = 9   /* a run came to an illegal entry; the *steps before it stand */
+    PRAMOLYT_ILLEGAL_FETCH = 9,  /* a run came to an illegal entry; the *steps before it stand */
+    PRAMOLYT_MALFORMED_FILE = 10 /* a file is not of edition 2: a zero bit that is set, a 31 where an entry belongs, or data
+                                    in a 31 */
 };
+
+/* Bytes of a list of so many entries, which is a file of edition 1 too; and of the same list in edition 2. An argument is
+ * evaluated once. Files of either edition have 1 to 4096 entries (PRAMOLYT_MAX_ENTRIES of pramolyt_list.h), so 20480 and
+ * 19124 bytes at most. */
+#define PRAMOLYT_LIST_SIZE(entries) ((size_t)5 * (entries))
+#define PRAMOLYT_PACKED_SIZE(entries) ((size_t)14 * (((size_t)(entries) + 2) / 3))
 
 /* The board record. The caller keeps it between calls and need not look into it. A flag is 0 or 1; a record with another
  * value in a flag is malformed. */
@@ -120,6 +130,23 @@ uint32_t pramolyt_window_write(pramolyt_board *board, size_t number, size_t offs
 uint32_t pramolyt_run(pramolyt_board *board, uint64_t *steps, uint64_t budget, const uint8_t *list, size_t list_len,
                       uint8_t *display, size_t display_len, uint8_t *virt, size_t virt_len);
 
+/* The two editions of the list file (docs/FORMAT.md), for a slow link. No board is needed. Whether an entry is legal is
+ * judged as pramolyt_post does, so a file that converts is a list that can be posted. With 0, *written is the bytes written,
+ * from the front of the output on; the bytes past them stay. In a refusal *written is 0 and the whole output stays. *place
+ * is the first illegal entry where the answer is 6, else 0. Input and output must not overlap.
+ *
+ * Edition 1 to edition 2: 0, 2, 3, 4 or 6. It is 2 where input_len is no multiple of 5, or output_len is less than
+ * PRAMOLYT_PACKED_SIZE of the entries; 3 where input_len is 0; 4 where there are more than 4096 entries. */
+uint32_t pramolyt_pack(uint64_t *written, uint64_t *place, const uint8_t *input, size_t input_len, uint8_t *output,
+                       size_t output_len);
+
+/* Edition 2 to edition 1: 0, 2, 3, 4, 6 or 10. The input has three entries for each 14 bytes, less the 31s that end its last
+ * group. It is 2 where input_len is no multiple of 14, or output_len is less than PRAMOLYT_LIST_SIZE of the entries; 3 where
+ * input_len is 0; 4 where there are more than 4096 entries. A 31 is no illegal entry, and *place counts it, three to a
+ * group. A file that is accepted is the one that pramolyt_pack makes of its list. */
+uint32_t pramolyt_unpack(uint64_t *written, uint64_t *place, const uint8_t *input, size_t input_len, uint8_t *output,
+                         size_t output_len);
+
 #ifdef __cplusplus
 }
 #endif
@@ -139,21 +166,23 @@ static inline const char *pramolyt_answer_text(uint32_t answer)
     case PRAMOLYT_MALFORMED:
         return "the board record is damaged or was never made; make the board anew";
     case PRAMOLYT_WRONG_SIZE:
-        return "a size is wrong: the board's, a memory's, the buffer number, or bytes that are no whole entries";
+        return "a size is wrong: the board's, a memory's, the buffer number, an output's, or bytes that are no whole entries";
     case PRAMOLYT_NO_ENTRIES:
         return "the list has no entries";
     case PRAMOLYT_PAST_THE_END:
-        return "the span passes the end of its memory";
+        return "the span passes the end of its memory, or the file has more than 4096 entries";
     case PRAMOLYT_SLOTS_FULL:
         return "two lists are waiting already; run one to its end first";
     case PRAMOLYT_ILLEGAL_ENTRY:
-        return "an entry is illegal; the list was not posted";
+        return "an entry is illegal; the list was not posted or converted";
     case PRAMOLYT_BUSY:
         return "a list is still to be drawn; run it to its end before writing a buffer";
     case PRAMOLYT_ENTRY_HELD:
         return "a list that is still to be drawn has one of these entries";
     case PRAMOLYT_ILLEGAL_FETCH:
         return "an illegal entry stopped the run; list memory or the record was changed since the post";
+    case PRAMOLYT_MALFORMED_FILE:
+        return "the file is not of edition 2: a zero bit, a missing entry or its data is wrong";
     default:
         return "no answer of this library";
     }

@@ -50,4 +50,24 @@ unsafe extern "C" {
         virt: *mut u8,
         virt_len: usize,
     ) -> u32;
+
+    #[link_name = "pramolyt_pack_r1"]
+    pub fn pramolyt_pack(
+        written: *mut u64,
+        place: *mut u64,
+        input: *const u8,
+        input_len: usize,
+        output: *mut u8,
+        output_len: usize,
+    ) -> u32;
+
+    #[link_name = "pramolyt_unpack_r1"]
+    pub fn pramolyt_unpack(
+        written: *mut u64,
+        place: *mut u64,
+        input: *const u8,
+        input_len: usize,
+        output: *mut u8,
+        output_len: usize,
+    ) -> u32;
 }

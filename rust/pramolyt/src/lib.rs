@@ -21,6 +21,8 @@
 //! # Ok::<(), Answer>(())
 //! ```
 //!
+//! [`pack`] and [`unpack`] take a list file from one edition to the other and need no board.
+//!
 //! The crate is `no_std`. The library has no state of its own: separate boards may run on separate threads at once.
 #![no_std]
 #![deny(missing_docs)]
@@ -34,10 +36,12 @@ extern crate std;
 mod answer;
 mod ffi;
 pub mod list;
+mod packing;
 #[cfg(test)]
 mod tests;
 
 pub use answer::Answer;
+pub use packing::{FileAnswer, list_size, pack, packed_size, unpack};
 
 /// The number of the display buffer.
 pub const DISPLAY: usize = 0;
