@@ -1,10 +1,12 @@
 //! The proved engine and the independent reference, driven side by side over random sequences of calls. After each call
 //! the answer, every word of the record and every byte of the memories must be equal; in honest sequences, which begin
-//! with make and lend the right memories, the paper board of document 01 must agree too.
+//! with make and lend the right memories, the paper board of document 01 must agree too. So are the two conversions of list
+//! files, over random files.
 #![deny(missing_docs)]
 
 pub mod call;
 pub mod choose;
+pub mod compared;
 pub mod difference;
 pub mod lists;
 pub mod packing;

@@ -1,9 +1,12 @@
-//! compare                  the fixed set: sequences of fixed seeds, and whether all that has to come up did
-//! compare long SEED CALLS  about so many calls from another seed, on two threads
-//! compare replay SEED      one sequence, call by call
+//! compare                        the fixed set: sequences and files of fixed seeds, and whether all that has to come up did
+//! compare long SEED CALLS        about so many calls from another seed, on two threads
+//! compare files SEED CONVERSIONS the same for list files
+//! compare replay SEED            one sequence, call by call
+//! compare file SEED              one list file
 
+use compare::compared::Compared;
+use compare::packing::Conversions;
 use compare::random::Random;
-use compare::sequence::play;
 use compare::tally::Tally;
 use std::process::ExitCode;
 use std::sync::atomic::{AtomicBool, Ordering};
@@ -13,6 +16,7 @@ use std::time::Instant;
 /// The fixed set.
 const SEED: u64 = 1;
 const SEQUENCES: u64 = 150_000;
+const FILES: u64 = 100_000;
 
 /// Calls between two lines of progress.
 const PROGRESS: u64 = 5_000_000;
@@ -24,7 +28,9 @@ fn main() -> ExitCode {
         Some(true) => ExitCode::SUCCESS,
         Some(false) => ExitCode::FAILURE,
         None => {
-            eprintln!("usage: compare | compare long SEED CALLS | compare replay SEED");
+            eprintln!(
+                "usage: compare [long SEED CALLS | files SEED CONVERSIONS | replay SEED | file SEED]"
+            );
             ExitCode::from(2)
         }
     }
@@ -34,8 +40,10 @@ fn main() -> ExitCode {
 fn command(words: &[&str]) -> Option<bool> {
     match words {
         [] => Some(fixed_set()),
-        ["long", seed, calls] => Some(long(number(seed)?, number(calls)?)),
-        ["replay", seed] => Some(replay(number(seed)?)),
+        ["long", seed, calls] => Some(long::<Tally>(number(seed)?, number(calls)?)),
+        ["files", seed, calls] => Some(long::<Conversions>(number(seed)?, number(calls)?)),
+        ["replay", seed] => Some(replay::<Tally>(number(seed)?)),
+        ["file", seed] => Some(replay::<Conversions>(number(seed)?)),
         _ => None,
     }
 }
@@ -48,48 +56,66 @@ fn number(word: &str) -> Option<u64> {
     }
 }
 
-/// The seed of one sequence.
-fn sequence_seed(seed: u64, index: u64) -> u64 {
+/// The seed of one sequence or file.
+fn own_seed(seed: u64, index: u64) -> u64 {
     Random::new(Random::new(seed).word() ^ index).word()
 }
 
-/// Plays one sequence of a seed and prints the difference that it finds.
-fn play_one(seed: u64, index: u64, tally: &mut Tally) -> bool {
-    let own = sequence_seed(seed, index);
-    let outcome = play(own, tally, false);
+/// Plays one sequence or file of a seed and prints the difference that it finds.
+fn play_one<C: Compared>(seed: u64, index: u64, counts: &mut C) -> bool {
+    let own = own_seed(seed, index);
+    let outcome = counts.play(own, false);
     if let Err(what) = &outcome {
-        println!("DIFFERENCE: seed {seed}, sequence {index} (compare replay {own:#x}), {what}");
+        let (unit, replay) = (C::UNIT, C::REPLAY);
+        println!("DIFFERENCE: seed {seed}, {unit} {index} (compare {replay} {own:#x}), {what}");
     }
     outcome.is_ok()
 }
 
 fn fixed_set() -> bool {
-    println!("seed {SEED}, {SEQUENCES} sequences");
-    let mut tally = Tally::default();
-    if !(0..SEQUENCES).all(|index| play_one(SEED, index, &mut tally)) {
-        println!("0 passed, 1 failed");
-        return false;
+    let sequences = fixed::<Tally>(SEQUENCES);
+    let files = fixed::<Conversions>(FILES);
+    let failed = sequences.failed + files.failed;
+    println!(
+        "{} passed, {failed} failed",
+        sequences.passed + files.passed
+    );
+    failed == 0
+}
+
+/// Checks that passed and failed.
+struct Checks {
+    passed: usize,
+    failed: usize,
+}
+
+/// So many sequences or files of the fixed seed, and whether all that has to come up did.
+fn fixed<C: Compared>(number: u64) -> Checks {
+    println!("seed {SEED}, {number} {}s", C::UNIT);
+    let mut counts = C::default();
+    if !(0..number).all(|index| play_one(SEED, index, &mut counts)) {
+        return Checks {
+            passed: 0,
+            failed: 1,
+        };
     }
-    tally.print();
-    let checks = tally.coverage();
-    let failed: Vec<_> = checks.iter().filter(|check| !check.1).collect();
+    counts.print();
+    let (passed, failed): (Vec<_>, Vec<_>) = counts.coverage().into_iter().partition(|c| c.1);
     for (name, _) in &failed {
         println!("FAILED: {name}");
     }
-    println!(
-        "{} passed, {} failed",
-        checks.len() - failed.len(),
-        failed.len()
-    );
-    failed.is_empty()
+    Checks {
+        passed: passed.len(),
+        failed: failed.len(),
+    }
 }
 
-fn long(seed: u64, calls: u64) -> bool {
+fn long<C: Compared>(seed: u64, calls: u64) -> bool {
     const THREADS: u64 = 2;
-    println!("seed {seed}, {calls} calls on {THREADS} threads");
+    println!("seed {seed}, {calls} {} on {THREADS} threads", C::CALLS);
     let begun = Instant::now();
     let stop = AtomicBool::new(false);
-    let tallies: Vec<Tally> = thread::scope(|scope| {
+    let counts: Vec<C> = thread::scope(|scope| {
         let stop = &stop;
         let worker = |first| move || stride(seed, first, THREADS, calls / THREADS, stop);
         let workers: Vec<_> = (0..THREADS)
@@ -100,38 +126,38 @@ fn long(seed: u64, calls: u64) -> bool {
             .map(|worker| worker.join().expect("a thread ends"))
             .collect()
     });
-    let mut total = Tally::default();
-    tallies.iter().for_each(|tally| total.add(tally));
+    let mut total = C::default();
+    counts.iter().for_each(|counts| total.add(counts));
     total.print();
     let seconds = begun.elapsed().as_secs_f64();
-    println!("{:.0} calls a second", total.calls() as f64 / seconds);
+    println!(
+        "{:.0} {} a second",
+        total.calls() as f64 / seconds,
+        C::CALLS
+    );
     !stop.load(Ordering::Relaxed)
 }
 
-/// The sequences first, first + by and so on of a seed, until so many calls are done or a difference is found.
-fn stride(seed: u64, first: u64, by: u64, calls: u64, stop: &AtomicBool) -> Tally {
-    let mut tally = Tally::default();
+/// The sequences or files first, first + by and so on of a seed, until so many calls are done or a difference is found.
+fn stride<C: Compared>(seed: u64, first: u64, by: u64, calls: u64, stop: &AtomicBool) -> C {
+    let mut counts = C::default();
     let mut told = 0;
     let mut index = first;
-    while tally.calls() < calls && !stop.load(Ordering::Relaxed) {
-        if !play_one(seed, index, &mut tally) {
+    while counts.calls() < calls && !stop.load(Ordering::Relaxed) {
+        if !play_one(seed, index, &mut counts) {
             stop.store(true, Ordering::Relaxed);
         }
         index += by;
-        if tally.calls() / PROGRESS > told {
-            told = tally.calls() / PROGRESS;
-            println!(
-                "thread {first}: {} calls, {} sequences",
-                tally.calls(),
-                tally.sequences()
-            );
+        if counts.calls() / PROGRESS > told {
+            told = counts.calls() / PROGRESS;
+            println!("thread {first}: {} {}", counts.calls(), C::CALLS);
         }
     }
-    tally
+    counts
 }
 
-fn replay(seed: u64) -> bool {
-    let outcome = play(seed, &mut Tally::default(), true);
+fn replay<C: Compared>(seed: u64) -> bool {
+    let outcome = C::default().play(seed, true);
     match &outcome {
         Ok(()) => println!("no difference"),
         Err(what) => println!("DIFFERENCE: {what}"),

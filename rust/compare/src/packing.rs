@@ -2,9 +2,12 @@
 //! and cut ones among them. Answer, place, bytes written and every byte of the output must be equal, and a list that packs
 //! must come back.
 
+use crate::compared::Compared;
 use crate::lists::{ENTRY, Size, doubtful_entry, legal_entry};
 use crate::random::Random;
+use pramolyt::FileAnswer;
 use reference::Conversion;
+use std::panic::{AssertUnwindSafe, catch_unwind};
 
 /// The names of the conversions.
 pub const WAYS: [&str; 2] = ["pack", "unpack"];
@@ -34,6 +37,20 @@ pub type Convert = fn(&[u8], &mut [u8]) -> Conversion;
 /// Edition 1 to edition 2, and back, by [`WAYS`].
 pub type Converter = [Convert; 2];
 
+/// The engine's conversions.
+pub const ENGINE: Converter = [
+    |input, output| told(pramolyt::pack(input, output)),
+    |input, output| told(pramolyt::unpack(input, output)),
+];
+
+fn told(answer: FileAnswer) -> Conversion {
+    Conversion {
+        number: answer.number(),
+        place: answer.place(),
+        written: answer.written() as u64,
+    }
+}
+
 /// The reference's conversions.
 pub const REFERENCE: Converter = [reference::pack, reference::unpack];
 
@@ -49,14 +66,23 @@ pub struct Conversions {
     back: u64,
 }
 
-impl Conversions {
-    /// All conversions of random files.
-    pub fn calls(&self) -> u64 {
+impl Compared for Conversions {
+    const UNIT: &'static str = "file";
+    const CALLS: &'static str = "conversions";
+    const REPLAY: &'static str = "file";
+
+    /// The error has the file whole, so nothing is printed before it.
+    fn play(&mut self, seed: u64, _shows: bool) -> Result<(), String> {
+        let outcome = catch_unwind(AssertUnwindSafe(|| play(seed, &ENGINE, self)));
+        outcome.unwrap_or_else(|_| Err("a panic".to_string()))
+    }
+
+    /// All conversions of random files, those of lists that came back not counted.
+    fn calls(&self) -> u64 {
         self.answers.iter().flatten().sum()
     }
 
-    /// Adds other counts to these.
-    pub fn add(&mut self, other: &Conversions) {
+    fn add(&mut self, other: &Conversions) {
         let pairs = self.answers.as_flattened_mut().iter_mut();
         let pairs = pairs.zip(other.answers.as_flattened());
         pairs.for_each(|(count, more)| *count += more);
@@ -65,8 +91,7 @@ impl Conversions {
         self.back += other.back;
     }
 
-    /// Each thing that has to come up, and whether it did.
-    pub fn coverage(&self) -> Vec<(String, bool)> {
+    fn coverage(&self) -> Vec<(String, bool)> {
         let mut checks = Vec::new();
         for (way, allowed) in ALLOWED.iter().enumerate() {
             for &number in *allowed {
@@ -84,18 +109,24 @@ impl Conversions {
         checks
     }
 
-    /// Prints the counts.
-    pub fn print(&self) {
+    fn print(&self) {
         println!(
             "{} conversions, {} lists came back",
             self.calls(),
             self.back
         );
+        print!("{:<13}", "answer");
+        (0..11).for_each(|number| print!("{number:>10}"));
+        println!();
         for (name, counts) in WAYS.iter().zip(&self.answers) {
             print!("{name:<13}");
             counts.iter().for_each(|count| print!("{count:>10}"));
             println!();
         }
+        println!(
+            "{:?} of {MOST} entries; unpacked with 0, 1 and 2 entries missing {:?}",
+            self.longest, self.missing
+        );
     }
 }
 
@@ -279,7 +310,8 @@ fn count(counts: &mut Conversions, way: usize, file: &[u8], conversion: Conversi
 
 #[cfg(test)]
 mod tests {
-    use super::{Conversions, Converter, REFERENCE, play};
+    use super::{Conversions, Converter, ENGINE, play};
+    use crate::compared::Compared;
     use reference::{Conversion, pack, unpack};
 
     /// Whether some of the first files show a difference.
@@ -292,7 +324,7 @@ mod tests {
     fn all_that_has_to_come_up_does() {
         let mut counts = Conversions::default();
         for seed in 0..20_000 {
-            assert_eq!(play(seed, &REFERENCE, &mut counts), Ok(()));
+            assert_eq!(play(seed, &ENGINE, &mut counts), Ok(()));
         }
         for (name, came_up) in counts.coverage() {
             assert!(came_up, "{name}");

@@ -212,6 +212,7 @@ fn memories(random: &mut Random, width: u64, height: u64, entries: u64) -> Memor
 #[cfg(test)]
 mod tests {
     use super::play;
+    use crate::compared::Compared;
     use crate::tally::Tally;
 
     #[test]

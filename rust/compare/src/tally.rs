@@ -1,7 +1,8 @@
 //! What came up: the calls by kind and answer, the steps, and the commands that budgets cut.
 
 use crate::call::{ALLOWED, CALLS, Call};
-use crate::sequence::{KINDS, Kind};
+use crate::compared::Compared;
+use crate::sequence::{self, KINDS, Kind};
 use crate::stipples::{STIPPLES, Stipple, ignores_bits, reads_bits};
 use reference::entries::{Command, flag, opcode};
 use reference::{Record, Report};
@@ -83,19 +84,22 @@ impl Tally {
             }
         }
     }
+}
 
-    /// All calls.
-    pub fn calls(&self) -> u64 {
+impl Compared for Tally {
+    const UNIT: &'static str = "sequence";
+    const CALLS: &'static str = "calls";
+    const REPLAY: &'static str = "replay";
+
+    fn play(&mut self, seed: u64, shows: bool) -> Result<(), String> {
+        sequence::play(seed, self, shows)
+    }
+
+    fn calls(&self) -> u64 {
         self.answers.iter().flatten().sum()
     }
 
-    /// All sequences.
-    pub fn sequences(&self) -> u64 {
-        self.sequences.iter().sum()
-    }
-
-    /// Adds another tally to this one.
-    pub fn add(&mut self, other: &Tally) {
+    fn add(&mut self, other: &Tally) {
         add(&mut self.sequences, &other.sequences);
         add(
             self.answers.as_flattened_mut(),
@@ -112,8 +116,7 @@ impl Tally {
         add(&mut self.stipples, &other.stipples);
     }
 
-    /// Each thing that has to come up, and whether it did.
-    pub fn coverage(&self) -> Vec<(String, bool)> {
+    fn coverage(&self) -> Vec<(String, bool)> {
         let mut checks = Vec::new();
         for (name, count) in KINDS.iter().zip(self.sequences) {
             checks.push((format!("{name} sequences without a difference"), count > 0));
@@ -146,8 +149,7 @@ impl Tally {
         checks
     }
 
-    /// Prints the counts.
-    pub fn print(&self) {
+    fn print(&self) {
         let calls = self.calls();
         println!(
             "{calls} calls, {} steps, {} in the longest run",
