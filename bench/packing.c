@@ -1,6 +1,7 @@
-/* The two conversions of a list file against a plain C converter that leaves its output alone in refusals too: the same
- * random legal lists, compared byte for byte and then timed, the best of many short runs taken in turn. The last two
- * columns are the library's speed by the plain one's. Status 1 where a conversion differs. */
+/* The two conversions of a list file against a plain C converter, which answers the same and leaves its output alone in
+ * refusals too: the same random legal lists, the best of many short runs taken in turn, outputs compared byte for byte. The
+ * last two columns are the library's speed divided by the plain one's. `packing tiny` only compares; its last line is
+ * 'N passed, M failed'. Status 1 where a conversion differs. */
 #define _POSIX_C_SOURCE 199309L
 #include <stdbool.h>
 #include <stdint.h>
@@ -8,14 +9,12 @@
 #include <string.h>
 #include <time.h>
 
-uint32_t pramolyt_pack(uint64_t *written, uint64_t *place, const uint8_t *input, size_t input_len, uint8_t *output,
-                       size_t output_len);
-uint32_t pramolyt_unpack(uint64_t *written, uint64_t *place, const uint8_t *input, size_t input_len, uint8_t *output,
-                         size_t output_len);
+#include "pramolyt.h"
+#include "pramolyt_list.h"
 
 typedef uint32_t conversion(uint64_t *, uint64_t *, const uint8_t *, size_t, uint8_t *, size_t);
 
-enum { ENTRIES = 4096, BYTES = 5 * ENTRIES, LISTS = 7, ROUNDS = 300 };
+enum { ENTRIES = PRAMOLYT_MAX_ENTRIES, BYTES = 5 * ENTRIES, LISTS = 7, ROUNDS = 300 };
 
 static bool bit(uint32_t word, int number)
 {
@@ -216,7 +215,7 @@ static double time_of(conversion *convert, const uint8_t *in, size_t size, uint8
 static conversion *const conversions[4] = {plain_pack, pramolyt_pack, plain_unpack, pramolyt_unpack};
 
 /* Adds to the sums the best times for one random list; false where a conversion differs. */
-static bool time_list(size_t count, double sums[4])
+static bool time_list(size_t count, int rounds, double sums[4])
 {
     static uint8_t files[2][BYTES], outs[4][BYTES];
     size_t sizes[2] = {5 * count, (count + 2) / 3 * 14};
@@ -226,7 +225,7 @@ static bool time_list(size_t count, double sums[4])
         random_entry(files[0] + 5 * k);
     plain_pack(&written, &place, files[0], sizes[0], files[1], BYTES);
     const size_t repeats = (size_t)(20e-6 / ((double)count * 3e-9 + 8e-9)) + 1;
-    for (int round = 0; round < ROUNDS; round++) {
+    for (int round = 0; round < rounds; round++) {
         for (int k = 0; k < 4; k++) {
             const double took = time_of(conversions[k], files[k / 2], sizes[k / 2], outs[k], repeats);
             best[k] = took < best[k] ? took : best[k];
@@ -237,21 +236,36 @@ static bool time_list(size_t count, double sums[4])
     return !memcmp(outs[0], outs[1], BYTES) && !memcmp(outs[2], outs[3], BYTES) && !memcmp(outs[3], files[0], sizes[0]);
 }
 
-int main(void)
+/* The times for random lists of so many entries; false where a conversion differs. */
+static bool time_size(size_t count, int rounds, double sums[4])
 {
-    const size_t counts[] = {1, 2, 3, 5, 10, 30, 100, 500, ENTRIES};
-    printf("entries   pack: plain, library, ns   unpack: plain, library, ns   pack   unpack\n");
-    for (size_t k = 0; k < sizeof counts / sizeof counts[0]; k++) {
-        double sums[4] = {0};
-        state = 88172645463325252u;
-        for (int list = 0; list < LISTS; list++) {
-            if (!time_list(counts[k], sums)) {
-                printf("a list of %zu entries is converted differently\n", counts[k]);
-                return 1;
-            }
+    state = 88172645463325252u;
+    for (int list = 0; list < LISTS; list++) {
+        if (!time_list(count, rounds, sums)) {
+            printf("FAILED: a list of %zu entries is converted differently\n", count);
+            return false;
         }
-        printf("%7zu   %11.1f %14.1f   %13.1f %14.1f   %4.2f   %6.2f\n", counts[k], sums[0] / LISTS * 1e9,
-               sums[1] / LISTS * 1e9, sums[2] / LISTS * 1e9, sums[3] / LISTS * 1e9, sums[0] / sums[1], sums[2] / sums[3]);
     }
-    return 0;
+    return true;
+}
+
+int main(int argc, char **argv)
+{
+    static const size_t counts[] = {1, 2, 3, 5, 10, 30, 100, 500, ENTRIES};
+    const bool tiny = argc == 2 && strcmp(argv[1], "tiny") == 0;
+    const size_t sizes = sizeof counts / sizeof counts[0];
+    size_t passed = 0;
+    if (!tiny)
+        printf("entries   pack: plain, library, ns   unpack: plain, library, ns   pack   unpack\n");
+    for (size_t k = 0; k < sizes; k++) {
+        double sums[4] = {0};
+        passed += time_size(counts[k], tiny ? 1 : ROUNDS, sums);
+        if (!tiny)
+            printf("%7zu   %11.1f %14.1f   %13.1f %14.1f   %4.2f   %6.2f\n", counts[k], sums[0] / LISTS * 1e9,
+                   sums[1] / LISTS * 1e9, sums[2] / LISTS * 1e9, sums[3] / LISTS * 1e9, sums[0] / sums[1],
+                   sums[2] / sums[3]);
+    }
+    if (tiny)
+        printf("%zu passed, %zu failed\n", passed, sizes - passed);
+    return passed != sizes;
 }

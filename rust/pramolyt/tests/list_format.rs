@@ -5,7 +5,7 @@ use pramolyt::list::{
     Buffer, Direction, ENTRY_BYTES, Entry, Flags, ILLEGAL_WORD, MAX_ENTRIES, MAX_PATTERN_LENGTH,
     MAX_PATTERN_SCALE, MAX_SIDE, Opcode, RasterCode, Register, command, pattern, point, size,
 };
-use pramolyt::{Answer, Board};
+use pramolyt::{Answer, Board, FileAnswer, list_size, pack, packed_size, unpack};
 use std::fs;
 use std::path::Path;
 
@@ -970,6 +970,85 @@ fn the_page_draws_its_list() {
     assert_eq!(steps, 10 + 36 + 18);
     assert!(text.contains(&format!("it takes {steps} steps")), "{steps}");
     assert_eq!(panel.rows(), picture.lines().collect::<Vec<&str>>());
+}
+
+/// A field of a group of edition 2.
+fn field_of(group: &[u8], (_, high, low): &Field) -> u32 {
+    let bits = group
+        .iter()
+        .fold(0, |all: u128, &byte| all << 8 | u128::from(byte));
+    (bits >> low & ((1 << (high - low + 1)) - 1)) as u32
+}
+
+/// The line of a group: its fields in hexadecimal, and the names of its entries.
+fn group_line(group: &[u8], entries: &[(Entry, &str)]) -> String {
+    let hex = |bytes: &[u8]| {
+        let bytes: Vec<String> = bytes.iter().map(|byte| format!("{byte:02X}")).collect();
+        bytes.join(" ")
+    };
+    let words = group[2..].chunks(4).map(hex);
+    let names: Vec<String> = entries.iter().map(|e| name_of(e.0.register)).collect();
+    let columns: Vec<String> = [hex(&group[..2])]
+        .into_iter()
+        .chain(words)
+        .chain([names.join(", ")])
+        .collect();
+    columns.join("   ")
+}
+
+#[test]
+fn the_page_draws_a_group() {
+    const HEADING: &str = "## The list file, edition 2";
+    let fields = picture(HEADING);
+    let names: Vec<&str> = fields.iter().map(|field| field.0.as_str()).collect();
+    let registers = ["register a", "register b", "register c"];
+    assert_eq!(
+        names,
+        [&["0"], &registers[..], &["word a", "word b", "word c"]].concat()
+    );
+    let (entries, text, blocks) = (whole_list(), section(HEADING), blocks(HEADING));
+    let list = entries.map(|(entry, _)| entry.to_bytes()).concat();
+    let mut file = vec![0; packed_size(entries.len())];
+    assert_eq!(pack(&list, &mut file).ok(), Ok(file.len()));
+    assert!(text.contains(&format!(
+        "{} bytes, and {} in edition 1",
+        file.len(),
+        list.len()
+    )));
+    let mut lines = blocks[1].lines();
+    for (group, present) in file.chunks(14).zip(entries.chunks(3)) {
+        assert_eq!(lines.next(), Some(group_line(group, present).as_str()));
+        assert_eq!(field_of(group, &fields[0]), 0);
+        for k in 0..3 {
+            let expected = present.get(k).map_or((31, 0), |(entry, _)| {
+                (u32::from(entry.register.number()), entry.word)
+            });
+            let found = (
+                field_of(group, &fields[1 + k]),
+                field_of(group, &fields[4 + k]),
+            );
+            assert_eq!(found, expected);
+        }
+    }
+    assert_eq!(lines.next(), None);
+}
+
+#[test]
+fn the_page_has_the_sizes_of_files() {
+    let text = section("## The list file, edition 2").replace('\n', " ");
+    assert!(text.contains("4,096 entries take 19,124 bytes in place of 20,480"));
+    assert_eq!(
+        (packed_size(MAX_ENTRIES), list_size(MAX_ENTRIES)),
+        (19_124, 20_480)
+    );
+    let list = Entry::new(Register::Lpat, 1)
+        .to_bytes()
+        .repeat(MAX_ENTRIES + 1);
+    let (mut file, mut back) = (vec![0; 20_000], vec![0; list.len()]);
+    let most = &list[..list_size(MAX_ENTRIES)];
+    assert_eq!(pack(&list, &mut file), FileAnswer::TooMany);
+    assert_eq!(pack(most, &mut file).ok(), Ok(19_124));
+    assert_eq!(unpack(&file[..19_124], &mut back).ok(), Ok(20_480));
 }
 
 /// Whether a stippled blit draws at bit position (x, 0), with one bit of one byte of row 0 set.
