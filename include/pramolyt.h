@@ -143,7 +143,8 @@ uint32_t pramolyt_pack(uint64_t *written, uint64_t *place, const uint8_t *input,
 /* Edition 2 to edition 1: 0, 2, 3, 4, 6 or 10. The input has three entries for each 14 bytes, less the 31s that end its last
  * group. It is 2 where input_len is no multiple of 14, or output_len is less than PRAMOLYT_LIST_SIZE of the entries; 3 where
  * input_len is 0; 4 where there are more than 4096 entries. A 31 is no illegal entry, and *place counts it, three to a
- * group. A file that is accepted is the one that pramolyt_pack makes of its list. */
+ * group. A file that is accepted is the one that pramolyt_pack makes of its list. The output is not to be a board's list
+ * memory, which only pramolyt_store may change. */
 uint32_t pramolyt_unpack(uint64_t *written, uint64_t *place, const uint8_t *input, size_t input_len, uint8_t *output,
                          size_t output_len);
 

@@ -144,7 +144,8 @@ pub fn pack(input: &[u8], output: &mut [u8]) -> FileAnswer {
 }
 
 /// Edition 2 to edition 1. A file has three entries for each 14 bytes, less the missing ones at its end, and `output` at least
-/// [`list_size`] bytes. A file that is accepted is the one that [`pack`] makes of its list.
+/// [`list_size`] bytes. A file that is accepted is the one that [`pack`] makes of its list. Into list memory the list goes by
+/// [`Board::store`](crate::Board::store).
 pub fn unpack(input: &[u8], output: &mut [u8]) -> FileAnswer {
     converted(ffi::pramolyt_unpack, input, output)
 }
