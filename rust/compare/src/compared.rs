@@ -2,7 +2,7 @@
 //! from one edition to the other ([`Conversions`](crate::packing::Conversions)).
 
 /// A kind of comparison, as the counts of what came up in it.
-pub trait Compared: Default + Send {
+pub trait Compared: Default + Send + 'static {
     /// What one seed plays.
     const UNIT: &'static str;
     /// What is counted of it.
