@@ -123,10 +123,9 @@ impl Compared for Conversions {
             counts.iter().for_each(|count| print!("{count:>10}"));
             println!();
         }
-        println!(
-            "{:?} of {MOST} entries; unpacked with 0, 1 and 2 entries missing {:?}",
-            self.longest, self.missing
-        );
+        let [packed, unpacked] = self.longest;
+        println!("{MOST} entries packed {packed}, unpacked {unpacked}");
+        println!("unpacked by entries missing {:?}", self.missing);
     }
 }
 
