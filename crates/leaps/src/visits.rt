@@ -158,18 +158,19 @@ fn visit_rows(
 }
 
 // n pixels of the line in CMD, on the buffer that it draws on; the pattern after them.
-fn stroke(e: Engine, extent: Extent, n: usize, buffer: &mut [u8]) -> Pattern
-    ensures { λ r. ⌜ dashed (now (buffer .exit)) r ≡ strokeIn extent e n (now (buffer .entry)) ⌝ }
+fn stroke(e: Engine, n: usize, width: u32, height: u32, buffer: &mut [u8]) -> Pattern
+    ensures { λ r. ⌜ dashed (now (buffer .exit)) r ≡ strokeIn (record { width = width; height = height }) e n (now (buffer .entry)) ⌝ }
 {
     let g = e.registers;
     let p = e.pattern;
     let c = command_of(g.cmd);
     let start = e.line_start();
+    let extent = Extent { width, height };
     let window = window_of(extent, c.clip, g.clptl, g.clpbr);
     let fore = pen(e, g.fore);
     let first = e.visited as usize;
     if c.solid {
-        draw_line(buffer, extent.width, window, fore, start, g.xy1, first, n);
+        draw_line(buffer, width, window, fore, start, g.xy1, first, n);
         return p;
     }
     let dashes = Dashes {
@@ -179,17 +180,7 @@ fn stroke(e: Engine, extent: Extent, n: usize, buffer: &mut [u8]) -> Pattern
         clear: c.trnsp,
         control: pattern_control_of(g.pctrl),
     };
-    draw_dashes(
-        buffer,
-        extent.width,
-        window,
-        dashes,
-        p,
-        start,
-        g.xy1,
-        first,
-        n,
-    )
+    draw_dashes(buffer, width, window, dashes, p, start, g.xy1, first, n)
 }
 
 // n pixels of a line visited, by its error term.
@@ -207,10 +198,10 @@ fn visit_stroke(
     let g = e.registers;
     let c = command_of(g.cmd);
     if c.to_virtual {
-        let p = stroke(e, extent, n, virt);
+        let p = stroke(e, n, extent.width, extent.height, virt);
         return moved_by(e, extent, count, n, p);
     }
-    let p = stroke(e, extent, n, display);
+    let p = stroke(e, n, extent.width, extent.height, display);
     moved_by(e, extent, count, n, p)
 }
 
