@@ -1,7 +1,7 @@
 -- A run that answers 9 stops at the illegal entry: by the steps of the run, each of which keeps the record well formed, its
 -- sizes and the buffers' lengths, so that the same run again passes the same tests.
 -- Assumes nothing.
-use mathlib.Core.Path.{_≡_, refl, ap, sym, subst, _∙_}
+use mathlib.Core.Path.{_≡_, refl, ap, sym, _∙_}
 use mathlib.Core.Bool.{Bool, true, false, cond}
 use mathlib.Core.List.{List}
 use Prim.Native.Nat.{ℕ, zero, suc, _<_}

@@ -234,6 +234,11 @@ module _ (extent : Extent) (e : Engine) (n display virt : ℕ) (g : Goes extent 
       visits-to (dashState extent e (g .line) own) refl (dash-strokes extent e (g .line) t to other own)
       (h ∙ ap (λ t. cond t line dotted) t ∙ sym (dashes-fit (extent .width) w (dashesIn e) a b (e .visited) n (dashed own (e .pattern)) _ fit refl)))
 
+-- a conjunction that fails, by its first part
+pub and-first : (a b : Bool) → (a && b) ≡ false → a ≡ true → b ≡ false
+and-first true b e t = e
+and-first false b e t = absurd (false≢true t)
+
 -- the two kinds of strokes, by the decoded command
 module _ (extent : Extent) (e : Engine) (c : Command) (is : c ≡ commandIn e) (n : ℕ) (l : List ℕ) where
   pub stroke-solid : c .solid ≡ true → (m : List ℕ)

@@ -1,8 +1,8 @@
 // Many pixels of one command visited at once: rows of a blit, the stroke of a line.
 ghost use mathlib.Core.Path.{_≡_};
-ghost use mathlib.Core.Bool.{true};
+ghost use mathlib.Core.Bool.{true, false};
 ghost use lib.ListN.{length};
-ghost use Rattle.commands.specs.Visits.{countOf};
+ghost use Rattle.commands.specs.Visits.{commandIn, countOf};
 ghost use Rattle.commands.specs.Steps.{scene, visitsOf};
 ghost use Rattle.strokes.specs.Strokes.{dashed};
 ghost use Rattle.leaps.specs.Leaps.{mixIn, stippleIn, paintOf, blitIn, penIn, strokeIn, movedBy, canLeap, goesByRows, goesByStroke};
@@ -157,21 +157,35 @@ fn visit_rows(
     after
 }
 
-// n pixels of the line in CMD, on the buffer that it draws on; the pattern after them.
-fn stroke(e: Engine, extent: Extent, n: usize, buffer: &mut [u8]) -> Pattern
-    ensures { λ r. ⌜ dashed (now (buffer .exit)) r ≡ strokeIn extent e n (now (buffer .entry)) ⌝ }
+// n pixels of the solid line in CMD, on the buffer that it draws on. Solid lines and dashes are two functions, so that the loops
+// of either keep their values in registers.
+fn stroke_solid(e: Engine, n: usize, width: u32, height: u32, buffer: &mut [u8])
+    requires { ⌜ commandIn e .solid ≡ true ⌝ }
+    ensures { λ _. ⌜ dashed (now (buffer .exit)) (e .pattern) ≡ strokeIn (record { width = width; height = height }) e n (now (buffer .entry)) ⌝ }
+{
+    let g = e.registers;
+    let c = command_of(g.cmd);
+    let start = e.line_start();
+    let extent = Extent { width, height };
+    let window = window_of(extent, c.clip, g.clptl, g.clpbr);
+    let fore = pen(e, g.fore);
+    let first = e.visited as usize;
+    draw_line(buffer, width, window, fore, start, g.xy1, first, n);
+}
+
+// n pixels of the dashed line in CMD, on the buffer that it draws on; the pattern after them.
+fn stroke_dashed(e: Engine, n: usize, width: u32, height: u32, buffer: &mut [u8]) -> Pattern
+    requires { ⌜ commandIn e .solid ≡ false ⌝ }
+    ensures { λ r. ⌜ dashed (now (buffer .exit)) r ≡ strokeIn (record { width = width; height = height }) e n (now (buffer .entry)) ⌝ }
 {
     let g = e.registers;
     let p = e.pattern;
     let c = command_of(g.cmd);
     let start = e.line_start();
+    let extent = Extent { width, height };
     let window = window_of(extent, c.clip, g.clptl, g.clpbr);
     let fore = pen(e, g.fore);
     let first = e.visited as usize;
-    if c.solid {
-        draw_line(buffer, extent.width, window, fore, start, g.xy1, first, n);
-        return p;
-    }
     let dashes = Dashes {
         lpat: g.lpat,
         fore,
@@ -179,17 +193,7 @@ fn stroke(e: Engine, extent: Extent, n: usize, buffer: &mut [u8]) -> Pattern
         clear: c.trnsp,
         control: pattern_control_of(g.pctrl),
     };
-    draw_dashes(
-        buffer,
-        extent.width,
-        window,
-        dashes,
-        p,
-        start,
-        g.xy1,
-        first,
-        n,
-    )
+    draw_dashes(buffer, width, window, dashes, p, start, g.xy1, first, n)
 }
 
 // n pixels of a line visited, by its error term.
@@ -206,11 +210,19 @@ fn visit_stroke(
 {
     let g = e.registers;
     let c = command_of(g.cmd);
+    if c.solid & c.to_virtual {
+        stroke_solid(e, n, extent.width, extent.height, virt);
+        return moved_by(e, extent, count, n, e.pattern);
+    }
+    if c.solid {
+        stroke_solid(e, n, extent.width, extent.height, display);
+        return moved_by(e, extent, count, n, e.pattern);
+    }
     if c.to_virtual {
-        let p = stroke(e, extent, n, virt);
+        let p = stroke_dashed(e, n, extent.width, extent.height, virt);
         return moved_by(e, extent, count, n, p);
     }
-    let p = stroke(e, extent, n, display);
+    let p = stroke_dashed(e, n, extent.width, extent.height, display);
     moved_by(e, extent, count, n, p)
 }
 

@@ -18,7 +18,7 @@ use Rattle.board.specs.Calls.{Reply, answered, freshBoard, sizes, makeCall, pos
 use Rattle.board.specs.declared.record.Board.{Board}
 use Rattle.board.proofs.Replies.{post-no-steps, store-no-more, write-no-more, run-no-place}
 use Rattle.pramolyt.specs.Image.{wordsOf, boardOf}
-use Rattle.pramolyt.specs.Exports.{ofImage, madeBy, makeImage, Posted, posted, postedBy, postImage, Changed, changed, changedBy, storeImage, writeImage, Ran, ran, ranBy, runImage}
+use Rattle.pramolyt.specs.Exports.{ofImage, makeImage, Posted, posted, postedBy, postImage, Changed, changed, changedBy, storeImage, writeImage, Ran, ran, ranBy, runImage}
 use Rattle.pramolyt.proofs.RoundTrips.{decodes-encoded, encodes-flags}
 use Rattle.statements.specs.Paper.{Call, post, store, write, run, paper}
 use Rattle.statements.specs.World.{World, world, Called, called, answersTo}

@@ -3,12 +3,12 @@
 use mathlib.Core.Path.{_≡_, refl, ap, ap₂, sym}
 use mathlib.Core.Bool.{Bool, true, false, cond, _&&_, _||_}
 use mathlib.Core.List.{List, []}
-use Prim.Native.Nat.{ℕ, _*_, _/_, _≤_}
+use Prim.Native.Nat.{ℕ, _*_}
 use native.Mathlib.Omega.{arith}
 use borrow.Author.Tests.{eq-eqb, le-leb}
 use lib.Dec.{eqb, leb}
 use lib.ListN.{length}
-use Rattle.lemmas.proofs.Booleans.{both, or-by}
+use Rattle.lemmas.proofs.Booleans.{both}
 use Rattle.lemmas.proofs.Memories.{put-none}
 use Rattle.slots.specs.Slots.{areaOf, slotOf}
 use Rattle.slots.specs.Calls.{holdsAny, leaves, writeReport}
@@ -16,13 +16,12 @@ use Rattle.slots.specs.declared.record.Slot.{Slot}
 use Rattle.slots.proofs.Grounds.{store-done, write-busy, write-done}
 use Rattle.board.specs.Record.{wellFormed}
 use Rattle.board.specs.Calls.{writeCall}
-use Rattle.board.specs.declared.record.Board.{Board}
 use Rattle.board.proofs.Forms.{good-of, none-waits}
 use Rattle.board.proofs.Refused.{post-given, store-stays, write-stays, run-halts}
 use Rattle.board.proofs.Replies.{store-by, write-by}
-use Rattle.statements.specs.Paper.{Call, post, store, write, run}
+use Rattle.statements.specs.Paper.{post, store, write, run}
 use Rattle.statements.specs.World.{World, world, Called, called}
-use Rattle.statements.specs.Refusals.{RefusedStays, unchanged, EmptyStore, EmptyWrite, EmptyWrites}
+use Rattle.statements.specs.Refusals.{RefusedStays, unchanged, EmptyStore, EmptyWrites}
 use Rattle.statements.proofs.Abstract.{machineOf, onto}
 use Rattle.statements.proofs.Storing.{storedOf}
 use Rattle.statements.proofs.Writing.{toDisplay, toVirtual}

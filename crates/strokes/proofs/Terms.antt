@@ -1,9 +1,9 @@
 -- The error term: at each pixel the coordinate is the nearest, and a step leads to the next pixel's.
 -- Assumes nothing.
-use mathlib.Core.Path.{_≡_, refl, ap, _∙_}
+use mathlib.Core.Path.{_≡_, refl, ap, sym, _∙_}
 use mathlib.Core.Logic.{⊎-elim, inl, inr}
 use Prim.Native.Nat.{ℕ, zero, suc, _+_, _-_, _*_, _/_, _%_, _≤_, _<_}
-use native.Mathlib.Nat.{add-mul, mul-suc, mul-assoc, one-mul, div-add-mod, mod-lt, mul-le-mul-left}
+use native.Mathlib.Nat.{add-mul, mul-suc, mul-assoc, one-mul, div-add-mod, mod-lt, mul-le-mul-left, le-antisymm}
 use native.Mathlib.Omega.{arith}
 use borrow.Author.Tests.{ltb-true, ltb-false}
 use lib.Dec.{ltb}
@@ -139,27 +139,17 @@ module _ (n i a b : ℕ) (some : 0 < n) (slope : distance a b ≤ n) where
         way = inr (record { order = l; up-is = refl; down-is = refl; term = omega (arith, w) });
       }
 
--- the same at the first pixel, where E is n a
-module _ (n a b : ℕ) (some : 0 < n) (slope : distance a b ≤ n) where
-  first-exact : exact n 0 a b ≡ n * a
-  first-exact =
-      let whole : n - 0 ≡ n = omega arith in
-      ap (λ k. k * a + 0 * b) whole ∙ omega arith
+-- at the first pixel E is n a, and the coordinate is a
+pub first-term : (n i a b : ℕ) → i ≡ 0 → 2 * exact n i a b + n - 1 ≡ 2 * (n * a) + n - 1
+first-term n i a b h =
+    let whole : n - i ≡ n = omega arith in
+    let left : (n - i) * a ≡ n * a = ap (λ k. k * a) whole in
+    let right : i * b ≡ 0 * b = ap (λ k. k * b) h in
+    omega (arith, left, right)
 
-  pub from-up : a ≤ b → On n 0 a b (record { coordinate = a; error = n - 1; growth = 2 * (b - a); up = 1; down = 0 })
-  from-up l =
-      record {
-        small = omega arith;
-        slope = slope;
-        grows = omega arith;
-        way = inl (record { order = l; up-is = refl; down-is = refl; term = omega (arith, first-exact) });
-      }
-
-  pub from-down : b ≤ a → On n 0 a b (record { coordinate = a; error = n; growth = 2 * (a - b); up = 0; down = 1 })
-  from-down l =
-      record {
-        small = omega arith;
-        slope = slope;
-        grows = omega arith;
-        way = inr (record { order = l; up-is = refl; down-is = refl; term = omega (arith, first-exact) });
-      }
+pub first-coordinate : (n a t : ℕ) → 0 < n → t ≡ 2 * (n * a) + n - 1 → a ≡ t / (2 * n)
+first-coordinate n a t some e =
+    let q : ℕ = (2 * (n * a) + n - 1) / (2 * n) in
+    let w = whole n (n * a) some in
+    le-antisymm (le-of-not-lt (λ l. omega (arith, w, below n q a l))) (le-of-not-lt (λ l. omega (arith, w, below n a q l)))
+    ∙ ap (λ t. t / (2 * n)) (sym e)

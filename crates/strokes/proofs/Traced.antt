@@ -55,11 +55,6 @@ pub traces-of : (a b p q : Point) (n i : ℕ) (x y : Stepper) → p ≡ a → q 
 traces-of a b p q n i x y e f g u v =
     record { along-x = rw (e, f, g) at u; along-y = rw (e, f, g) at v; full-is = ap (λ (k : ℕ). 2 * k) g }
 
--- the same at the first pixel
-pub traces-first : (a b p q : Point) (n i : ℕ) (x y : Stepper) → p ≡ a → q ≡ b → n ≡ stepsOf a b
-    → On n 0 (p .x) (q .x) x → On n 0 (p .y) (q .y) y → i ≡ 0 → Traces a b i (record { x = x; y = y; full = 2 * n })
-traces-first a b p q n i x y e f g u v h = rw h (traces-of a b p q n 0 x y e f g u v)
-
 module _ (a b : Point) where
   traces-point : (i : ℕ) (t : Tracer) → 0 < stepsOf a b → Traces a b i t → pointOn t ≡ linePoint a b i
   traces-point i t some o =

@@ -3,7 +3,7 @@ use mathlib.Core.Path.{_≡_}
 use mathlib.Core.Bool.{true}
 use Prim.Native.Nat.{ℕ, _+_, _*_, _≤_, _<_}
 use Rattle.geometry.specs.Clip.{inWindow}
-use Rattle.geometry.specs.Line.{stepsOf, nearestOf, linePoint}
+use Rattle.geometry.specs.Line.{nearestOf, linePoint}
 use Rattle.geometry.specs.declared.Point.{Point}
 use Rattle.geometry.specs.declared.Window.{Window}
 use Rattle.strokes.specs.declared.ranges.Range.{Range}
@@ -27,14 +27,6 @@ pub record AtLeast (n a b c r : ℕ) : Type 0 where
 pub record Ranges (n a b low high : ℕ) (s : Range) : Type 0 where
   pub inside : (i : ℕ) → i ≤ n → s .start ≤ i → i < s .end → (low ≤ nearestOf n i a b) × (nearestOf n i a b < high)
   pub only : (i : ℕ) → i ≤ n → low ≤ nearestOf n i a b → nearestOf n i a b < high → (s .start ≤ i) × (i < s .end)
-
--- n pixels from `first` on are pixels of a line of at least one step.
-pub record Part (a b : Point) (first n : ℕ) : Type 0 where
-  pub some : 0 < stepsOf a b
-  pub within : first + n ≤ stepsOf a b + 1
-
-abbrev pub windowOf : ℕ → ℕ → ℕ → ℕ → Window
-windowOf left right top bottom = record { left = left; right = right; top = top; bottom = bottom }
 
 -- Of n pixels from `first` on, those of a range are visible in the window, and no others.
 pub record Visible (w : Window) (a b : Point) (first n : ℕ) (s : Range) : Type 0 where

@@ -1,10 +1,11 @@
 // The pixels of a line that are visible in a window: one stretch, found by divisions.
 ghost use mathlib.Core.Path.{_≡_};
-ghost use Prim.Native.Nat.{_+_, _≤_, _<_};
+ghost use Prim.Native.Nat.{_+_, _-_, _≤_, _<_};
 ghost use Rattle.geometry.specs.Coordinates.{pointOf};
 ghost use Rattle.geometry.specs.Clip.{inWindow};
+ghost use Rattle.geometry.specs.Line.{stepsOf};
 ghost use Rattle.strokes.specs.Tracers.{Axis};
-ghost use Rattle.strokes.specs.Ranges.{Counts, Below, AtLeast, Ranges, Part, windowOf, Visible};
+ghost use Rattle.strokes.specs.Ranges.{Counts, Below, AtLeast, Ranges, Visible};
 use geometry::Point;
 use geometry::Window;
 use geometry::line_steps;
@@ -79,50 +80,30 @@ fn visible(w: Window, p: Point) -> bool
     (w.left <= p.x) & (p.x < w.right) & (w.top <= p.y) & (p.y < w.bottom)
 }
 
-// Of n pixels of a line from pixel `first` on, those that are visible in a window of these borders.
-fn crossing_range(
-    left: usize,
-    right: usize,
-    top: usize,
-    bottom: usize,
-    from: u32,
-    to: u32,
-    first: usize,
-    n: usize,
-) -> Range
-    requires { ⌜ Part (pointOf from) (pointOf to) first n ⌝ }
-    ensures { λ r. ⌜ Visible (windowOf left right top bottom) (pointOf from) (pointOf to) first n r ⌝ }
+// Of n pixels of a line from pixel `first` on, those that are visible in a window.
+pub(crate) fn visible_range(w: Window, from: u32, to: u32, first: usize, n: usize) -> Range
+    requires { ⌜ (0 < stepsOf (pointOf from) (pointOf to)) × (first + n ≤ stepsOf (pointOf from) (pointOf to) + 1) ⌝ }
+    ensures { λ r. ⌜ Visible w (pointOf from) (pointOf to) first n r ⌝ }
 {
     let a = point_of(from);
     let b = point_of(to);
     let last = first + n;
+    if visible(w, a) & visible(w, b) {
+        return Range {
+            start: first,
+            end: last,
+        };
+    }
     let steps = line_steps(from, to);
-    let x = range_of(steps, a.x, b.x, left, right);
+    let x = range_of(steps, a.x, b.x, w.left, w.right);
     if x.end <= x.start {
         return Range {
             start: first,
             end: first,
         };
     }
-    let y = range_of(steps, a.y, b.y, top, bottom);
+    let y = range_of(steps, a.y, b.y, w.top, w.bottom);
     let start = max(max(first, x.start), y.start);
     let end = min(min(last, x.end), y.end);
     Range { start, end }
-}
-
-// The same in a window. A line of which both ends are visible is visible whole, and is asked for here, so that this test is
-// compiled into the callers.
-pub(crate) fn visible_range(w: Window, from: u32, to: u32, first: usize, n: usize) -> Range
-    requires { ⌜ Part (pointOf from) (pointOf to) first n ⌝ }
-    ensures { λ r. ⌜ Visible w (pointOf from) (pointOf to) first n r ⌝ }
-{
-    let a = point_of(from);
-    let b = point_of(to);
-    if visible(w, a) & visible(w, b) {
-        return Range {
-            start: first,
-            end: first + n,
-        };
-    }
-    crossing_range(w.left, w.right, w.top, w.bottom, from, to, first, n)
 }

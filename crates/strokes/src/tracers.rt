@@ -1,5 +1,6 @@
 // A line's pixels by an error term for each axis.
-ghost use Prim.Native.Nat.{_≤_, _<_};
+ghost use mathlib.Core.Path.{_≡_};
+ghost use Prim.Native.Nat.{_+_, _-_, _*_, _/_, _≤_, _<_};
 ghost use Rattle.geometry.specs.Coordinates.{pointOf};
 ghost use Rattle.geometry.specs.Line.{stepsOf};
 ghost use Rattle.strokes.specs.Tracers.{Axis, On, Traces};
@@ -15,6 +16,17 @@ pub(crate) struct Stepper {
     pub(crate) down: usize,
 }
 
+// The coordinate at pixel i, t / 2n; at the first pixel it is a, and needs no division.
+fn coordinate_at(n: usize, i: usize, a: usize, t: usize) -> usize
+    requires { ⌜ (0 < n) × (n < 65536) × (i ≡ 0 → t ≡ 2 * (n * a) + n - 1) ⌝ }
+    ensures { λ r. ⌜ r ≡ t / (2 * n) ⌝ }
+{
+    if i == 0 {
+        return a;
+    }
+    t / (2 * n)
+}
+
 // At pixel i of a line of n steps, along an axis from a to b.
 fn stepper_at(n: usize, i: usize, a: usize, b: usize) -> Stepper
     requires { ⌜ Axis n a b × (i ≤ n) ⌝ }
@@ -23,7 +35,7 @@ fn stepper_at(n: usize, i: usize, a: usize, b: usize) -> Stepper
     let e = (n - i) * a + i * b;
     let t = 2 * e + n - 1;
     let m = 2 * n;
-    let v = t / m;
+    let v = coordinate_at(n, i, a, t);
     if a <= b {
         Stepper {
             coordinate: v,
@@ -36,30 +48,6 @@ fn stepper_at(n: usize, i: usize, a: usize, b: usize) -> Stepper
         Stepper {
             coordinate: v,
             error: m * v + n - 2 * e,
-            growth: 2 * (a - b),
-            up: 0,
-            down: 1,
-        }
-    }
-}
-
-// The same at the first pixel, without a division.
-fn stepper_from(n: usize, a: usize, b: usize) -> Stepper
-    requires { ⌜ Axis n a b ⌝ }
-    ensures { λ r. ⌜ On n 0 a b r ⌝ }
-{
-    if a <= b {
-        Stepper {
-            coordinate: a,
-            error: n - 1,
-            growth: 2 * (b - a),
-            up: 1,
-            down: 0,
-        }
-    } else {
-        Stepper {
-            coordinate: a,
-            error: n,
             growth: 2 * (a - b),
             up: 0,
             down: 1,
@@ -82,11 +70,6 @@ pub(crate) fn tracer_at(from: u32, to: u32, i: usize) -> Tracer
     let a = point_of(from);
     let b = point_of(to);
     let n = line_steps(from, to);
-    if i == 0 {
-        let x = stepper_from(n, a.x, b.x);
-        let y = stepper_from(n, a.y, b.y);
-        return Tracer { x, y, full: 2 * n };
-    }
     let x = stepper_at(n, i, a.x, b.x);
     let y = stepper_at(n, i, a.y, b.y);
     Tracer { x, y, full: 2 * n }

@@ -30,7 +30,7 @@ returns : tie.Need-returns
 returns c = dashes-unfit _ _ _ _ _ _ _ _ (sym (c .before .stroke-fits .ensures) ∙ not-true _ (c .if1 .taken))
 
 visible-range-requires : tie.Need-visible-range-requires
-visible-range-requires c κs = record { some = fit (c .before) .steps-in; within = fit (c .before) .pixels-in }
+visible-range-requires c κs = (fit (c .before) .steps-in, fit (c .before) .pixels-in)
 
 cast-after : tie.Need-cast-after
 cast-after c = omega (arith, few (c .before .before .before .before))

@@ -23,7 +23,7 @@ returns : tie.Need-returns
 returns c = stroke-unfit _ _ _ _ _ _ _ _ (sym (c .before .stroke-fits .ensures) ∙ not-true _ (c .if1 .taken))
 
 visible-range-requires : tie.Need-visible-range-requires
-visible-range-requires c κs = record { some = fit c .steps-in; within = fit c .pixels-in }
+visible-range-requires c κs = (fit c .steps-in, fit c .pixels-in)
 
 returns-2 : tie.Need-returns-2
 returns-2 c =

@@ -1,8 +1,10 @@
--- Where both ends are visible all pixels are (`visible-whole`); else `crossing_range` finds those that are.
+-- `strokes::ranges::visible_range` meets its contract. Where both ends are visible all pixels are (`visible-whole`); where no
+-- x lies in the window none is (`hidden-beside`); else those are whose x and y both do (`visible-by`).
 -- Assumes nothing.
 use borrow.Author.Needs.{needs}
 use Rattle.geometry.proofs.Lines.{steps-lt}
-use Rattle.strokes.proofs.Crossings.{last-fits, visible-whole}
+use Rattle.strokes.proofs.Crossings.{last-fits, visible-whole, visible-by, hidden-beside}
+use Rattle.strokes.proofs.Traced.{x-axis, y-axis}
 use Rattle.strokes.proofs.ranges.visible_range.Statement.{statement}
 use Rattle.strokes.proofs.ranges.visible_range.Tie as tie
 
@@ -12,30 +14,75 @@ point-of-requires c κs = search needs
 point-of-requires-2 : tie.Need-point-of-requires-2
 point-of-requires-2 c κs = search needs
 
+add-last : tie.Need-add-last
+add-last c =
+    let s = c .before .before in
+    record { fits = last-fits _ _ _ (s .pre .1) (steps-lt (s .args .from) (s .args .to)) }
+
 visible-requires : tie.Need-visible-requires
 visible-requires c κs = search needs
 
 visible-requires-2 : tie.Need-visible-requires-2
 visible-requires-2 c κs = search needs
 
-add-t11 : tie.Need-add-t11
-add-t11 c =
-    let s = c .before .before .before .before .before in
-    record { fits = last-fits _ _ _ (s .pre .within) (steps-lt (s .args .from) (s .args .to)) }
-
 returns : tie.Need-returns
 returns c =
     let t = c .before in
     let q = t .before .before in
     let s = q .before .before in
-    visible-whole _ _ _ _ _ _ _ (s .pre .within) (q .before .point-of .ensures) (q .point-of2 .ensures)
+    visible-whole _ _ _ _ _ _ _ (s .pre .1) (q .before .point-of .ensures) (q .point-of2 .ensures)
     (rw (t .before .visible .ensures, t .visible2 .ensures) at (c .if1 .taken))
 
-crossing-range-requires : tie.Need-crossing-range-requires
-crossing-range-requires c κs = search needs
+line-steps-requires : tie.Need-line-steps-requires
+line-steps-requires c κs = search needs
+
+range-of-requires : tie.Need-range-of-requires
+range-of-requires c κs =
+    let l = c in
+    let q = l .before .before .before .before in
+    let s = q .before .before in
+    rw (l .line-steps .ensures, q .point-of2 .ensures, q .before .point-of .ensures)
+    (x-axis _ _ (s .pre .0))
 
 returns-2 : tie.Need-returns-2
-returns-2 c = search needs
+returns-2 c =
+    let x = c .before .before in
+    let l = x .before in
+    let q = l .before .before .before .before in
+    let s = q .before .before in
+    hidden-beside _ _ _ _ _ _ _ _ _ (s .pre .1) (q .before .point-of .ensures) (q .point-of2 .ensures) (l .line-steps .ensures)
+    (x .range-of .ensures) (c .if2 .taken)
+
+range-of-requires-2 : tie.Need-range-of-requires-2
+range-of-requires-2 c κs =
+    let l = c .before .before .before in
+    let q = l .before .before .before .before in
+    let s = q .before .before in
+    rw (l .line-steps .ensures, q .point-of2 .ensures, q .before .point-of .ensures)
+    (y-axis _ _ (s .pre .0))
+
+max-requires : tie.Need-max-requires
+max-requires c κs = search needs
+
+max-requires-2 : tie.Need-max-requires-2
+max-requires-2 c κs = search needs
+
+min-requires : tie.Need-min-requires
+min-requires c κs = search needs
+
+min-requires-2 : tie.Need-min-requires-2
+min-requires-2 c κs = search needs
+
+returns-3 : tie.Need-returns-3
+returns-3 c =
+    let g = c .before .before in
+    let y = g .before .before in
+    let x = y .before .before .before in
+    let l = x .before in
+    let q = l .before .before .before .before in
+    let s = q .before .before in
+    visible-by _ _ _ _ _ _ _ _ _ _ _ _ _ _ (s .pre .1) (q .before .point-of .ensures) (q .point-of2 .ensures) (l .line-steps .ensures)
+    (x .range-of .ensures) (y .range-of2 .ensures) (g .before .max .ensures) (g .max2 .ensures) (c .before .min .ensures) (c .min2 .ensures)
 
 pub visible-range-spec : {M : Type 1} → statement M
 visible-range-spec =
@@ -43,9 +90,16 @@ visible-range-spec =
     (tie.spec
     point-of-requires
     point-of-requires-2
+    add-last
     visible-requires
     visible-requires-2
-    add-t11
     returns
-    crossing-range-requires
-    returns-2)
+    line-steps-requires
+    range-of-requires
+    returns-2
+    range-of-requires-2
+    max-requires
+    max-requires-2
+    min-requires
+    min-requires-2
+    returns-3)

@@ -1,4 +1,4 @@
--- `strokes::tracers::stepper_at` meets its contract. The quotient is the nearest coordinate and what the division leaves is
+-- `strokes::tracers::stepper_at` meets its contract. The quotient, which `coordinate_at` finds, is the nearest coordinate and what the division leaves is
 -- the error term, up or down (`starts-up`, `starts-down`). `few` and `cut` bound the products.
 -- Assumes nothing.
 use Prim.Native.Nat.{_-_, _*_, _<_}
@@ -6,7 +6,7 @@ use native.Mathlib.Omega.{arith}
 use borrow.Author.Needs.{needs}
 use Rattle.geometry.specs.Line.{exact}
 use Rattle.geometry.proofs.Lines.{product-lt}
-use Rattle.strokes.proofs.Terms.{Whole, whole, starts-up, starts-down}
+use Rattle.strokes.proofs.Terms.{Whole, whole, starts-up, starts-down, first-term}
 use Rattle.strokes.proofs.tracers.stepper_at.Statement.{statement}
 use Rattle.strokes.proofs.tracers.stepper_at.Tie as tie
 
@@ -40,29 +40,31 @@ sub-t c = search needs
 mul-m : tie.Need-mul-m
 mul-m c = search needs
 
-div-v : tie.Need-div-v
-div-v c = search needs
+coordinate-at-requires : tie.Need-coordinate-at-requires
+coordinate-at-requires c κs =
+    let a = c .args in
+    (c .pre .0 .some, c .pre .0 .steps-few, λ h. first-term (a .n) (a .i) (a .a) (a .b) h)
 
 mul-t14 : tie.Need-mul-t14
-mul-t14 c = omega (arith, few (c .before), cut (c .before))
+mul-t14 c = rw (c .before .coordinate-at .ensures) (omega (arith, few (c .before .before), cut (c .before .before)))
 
 sub-t15 : tie.Need-sub-t15
-sub-t15 c = omega (arith, cut (c .before))
+sub-t15 c = rw (c .before .coordinate-at .ensures) (omega (arith, cut (c .before .before)))
 
 mul-t17 : tie.Need-mul-t17
 mul-t17 c = search needs
 
 mul-t18 : tie.Need-mul-t18
-mul-t18 c = omega (arith, few (c .before), cut (c .before))
+mul-t18 c = rw (c .before .coordinate-at .ensures) (omega (arith, few (c .before .before), cut (c .before .before)))
 
 add-t19 : tie.Need-add-t19
-add-t19 c = omega (arith, few (c .before), cut (c .before))
+add-t19 c = rw (c .before .coordinate-at .ensures) (omega (arith, few (c .before .before), cut (c .before .before)))
 
 mul-t20 : tie.Need-mul-t20
-mul-t20 c = omega (arith, few (c .before))
+mul-t20 c = omega (arith, few (c .before .before))
 
 sub-t21 : tie.Need-sub-t21
-sub-t21 c = omega (arith, cut (c .before))
+sub-t21 c = rw (c .before .coordinate-at .ensures) (omega (arith, cut (c .before .before)))
 
 sub-t22 : tie.Need-sub-t22
 sub-t22 c = search needs
@@ -71,10 +73,14 @@ mul-t23 : tie.Need-mul-t23
 mul-t23 c = search needs
 
 returns : tie.Need-returns
-returns c = starts-up _ _ _ _ (c .before .pre .0 .some) (omega arith) (c .if1 .taken)
+returns c =
+    let s = c .before .before in
+    rw (c .before .coordinate-at .ensures) (starts-up _ _ _ _ (s .pre .0 .some) (s .pre .0 .slope) (c .if1 .taken))
 
 returns-2 : tie.Need-returns-2
-returns-2 c = starts-down _ _ _ _ (c .before .pre .0 .some) (omega arith) (omega arith)
+returns-2 c =
+    let s = c .before .before in
+    rw (c .before .coordinate-at .ensures) (starts-down _ _ _ _ (s .pre .0 .some) (s .pre .0 .slope) (omega arith))
 
 pub stepper-at-spec : {M : Type 1} → statement M
 stepper-at-spec =
@@ -88,7 +94,7 @@ stepper-at-spec =
     add-t
     sub-t
     mul-m
-    div-v
+    coordinate-at-requires
     mul-t14
     sub-t15
     mul-t17
