@@ -7,6 +7,7 @@ ghost use Rattle.pramolyt.specs.Exports.{made, makeImage, posted, postIm
 mod image;
 
 use board::Board;
+use feeds::Feed;
 use image::WORDS;
 use image::decode;
 use image::encode;
@@ -114,6 +115,35 @@ pub extern "C" fn pramolyt_run_r1(
     let status = ran.status;
     *board = encode(ran.board);
     *steps = status.steps();
+    status.number()
+}
+
+#[no_mangle]
+pub extern "C" fn pramolyt_feed_start_r1(feed: &mut Feed, entry: u64)
+    ensures { λ _. ⌜ now (feed .exit) ≡ startAt entry ⌝ }
+{
+    *feed = Feed::start(entry);
+}
+
+#[no_mangle]
+pub extern "C" fn pramolyt_feed_r1(
+    board: &mut [u32; WORDS],
+    feed: &mut Feed,
+    list: &mut [u8],
+    piece: &[u8],
+) -> u32
+    ensures { λ r. ⌜ received r (now (board .exit)) (now (feed .exit)) (now (list .exit)) ≡ feedImage (now (board .entry)) (now (feed .entry)) (now (list .entry)) (now (piece .entry)) ⌝ }
+{
+    let w = *board;
+    if !flags_ok(w) {
+        return 1;
+    }
+    let b = decode(w);
+    let f = *feed;
+    let received = b.feed(f, list, piece);
+    let status = received.status;
+    *board = encode(received.board);
+    *feed = received.feed;
     status.number()
 }
 
