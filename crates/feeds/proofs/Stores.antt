@@ -10,21 +10,21 @@ use lib.Dec.{eqb, leb, ltb}
 use lib.ListN.{length}
 use Rattle.lemmas.proofs.Booleans.{by-cases, and-left, and-right, both, or-none-left, or-none-right}
 use Rattle.answers.specs.Reports.{report}
-use Rattle.slots.specs.Slots.{endOf}
-use Rattle.slots.specs.Calls.{putInto, holdsAny, storeReport}
+use Rattle.lemmas.specs.Memory.{putInto}
+use Rattle.lists.specs.Spans.{endOf}
+use Rattle.slots.specs.Calls.{holdsAny, storeReport}
 use Rattle.slots.specs.declared.record.Sizes.{Sizes}
 use Rattle.slots.specs.declared.record.Slot.{Slot}
 use Rattle.slots.proofs.Grounds.{store-wrong-size, store-past, store-held, store-done}
 use Rattle.feeds.specs.declared.Feed.{Feed}
-use Rattle.feeds.specs.Feeds.{feedOk, joined, entriesIn, completed, advanced, outcome, byStore, feedReport}
-use Rattle.feeds.specs.Cuts.{accepted}
+use Rattle.feeds.specs.Feeds.{feedOk, joined, entriesIn, completed, advanced, outcome, byStore, feedReport, accepted}
 use Rattle.feeds.proofs.Bytes.{length-completed}
 
 -- ---- entries that a slot's list has none of
 abbrev pub Free : Slot → ℕ → ℕ → Type 0
-Free s first n = s .taken ≡ true → 0 < n → first < endOf s → s .start < first + n → ⊥
+Free s first n = s .taken ≡ true → 0 < n → first < endOf (s .span) → s .span .start < first + n → ⊥
 
-none : (a b c d : Bool) → (a ≡ true → b ≡ true → c ≡ true → d ≡ true → ⊥) → (a && b && c && d) ≡ false
+none : (a b c d : Bool) → (a ≡ true → b ≡ true → c ≡ true → d ≡ true → ⊥) → (a && (b && c && d)) ≡ false
 none true true true true h = absurd (h refl refl refl refl)
 none true true true false h = refl
 none true true false d h = refl
@@ -33,13 +33,13 @@ none false b c d h = refl
 
 pub free-of : (s : Slot) (first n : ℕ) → holdsAny s first n ≡ false → Free s first n
 free-of s first n e t h i j =
-    let all : holdsAny s first n ≡ true = both (both (both t (lt-ltb 0 n h)) (lt-ltb first (endOf s) i)) (lt-ltb (s .start) (first + n) j) in
+    let all : holdsAny s first n ≡ true = both t (both (both (lt-ltb 0 n h) (lt-ltb first (endOf (s .span)) i)) (lt-ltb (s .span .start) (first + n) j)) in
     false≢true (sym e ∙ all)
 
 pub of-free : (s : Slot) (first n : ℕ) → Free s first n → holdsAny s first n ≡ false
 of-free s first n h =
-    none (s .taken) (ltb 0 n) (ltb first (endOf s)) (ltb (s .start) (first + n))
-    (λ t a b c. h t (ltb-true 0 n a) (ltb-true first (endOf s) b) (ltb-true (s .start) (first + n) c))
+    none (s .taken) (ltb 0 n) (ltb first (endOf (s .span))) (ltb (s .span .start) (first + n))
+    (λ t a b c. h t (ltb-true 0 n a) (ltb-true first (endOf (s .span)) b) (ltb-true (s .span .start) (first + n) c))
 
 pub free-earlier : (s : Slot) (first n m : ℕ) → Free s first (n + m) → Free s first n
 free-earlier s first n m h t a b c = h t (omega arith) b (omega arith)
@@ -48,12 +48,12 @@ pub free-later : (s : Slot) (first n m : ℕ) → Free s first (n + m) → Free 
 free-later s first n m h t a b c = h t (omega arith) (omega arith) (omega arith)
 
 -- of a list that is not empty
-pub free-join : (s : Slot) (first n m : ℕ) → (s .taken ≡ true → 1 ≤ s .count) → Free s first n → Free s (first + n) m → Free s first (n + m)
+pub free-join : (s : Slot) (first n m : ℕ) → (s .taken ≡ true → 1 ≤ s .span .count) → Free s first n → Free s (first + n) m → Free s first (n + m)
 free-join s first n m some g h t a b c =
-    by-cases (ltb (s .start) (first + n))
-    (λ e. let e′ = ltb-true (s .start) (first + n) e in
+    by-cases (ltb (s .span .start) (first + n))
+    (λ e. let e′ = ltb-true (s .span .start) (first + n) e in
     by-cases (ltb 0 n) (λ k. g t (ltb-true 0 n k) b e′) (λ k. let k′ = ltb-false 0 n k in h t (omega arith) (omega arith) (omega arith)))
-    (λ e. let e′ = ltb-false (s .start) (first + n) e in
+    (λ e. let e′ = ltb-false (s .span .start) (first + n) e in
     let c′ = some t in
     h t (omega arith) (omega arith) (omega arith))
 

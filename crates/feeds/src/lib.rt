@@ -1,6 +1,7 @@
 // Lists over the serial line (document 02, R-5): bytes cut at odd places become stores of the entries that they complete.
 ghost use mathlib.Core.Path.{_≡_};
 ghost use Rattle.feeds.specs.Feeds.{startAt, feedOk};
+
 mod pieces;
 
 use answers::Status;
@@ -16,7 +17,7 @@ pub struct Feed {
 }
 
 // What a feed answers, and the feed record after it.
-pub struct Fed {
+pub struct FeedResult {
     pub status: Status,
     pub feed: Feed,
 }

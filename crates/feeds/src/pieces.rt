@@ -7,13 +7,13 @@ ghost use lib.ListN.{length};
 ghost use Rattle.lemmas.specs.Memory.{putInto};
 ghost use Rattle.answers.specs.Reports.{reportOf};
 ghost use Rattle.feeds.specs.Feeds.{heldOk, joined, entriesIn, completed, advanced, placedBy, lentFeed, feedReport};
-use crate::Fed;
 use crate::Feed;
+use crate::FeedResult;
 use answers::Status;
 use slots::Sizes;
 use slots::Slot;
 use slots::held;
-use slots::put;
+use slots::put_fitting;
 
 // Whole entries in so many held bytes and so many more, and the bytes left over; the sum may pass 64 bits.
 fn entries_in(count: usize, more: usize) -> usize
@@ -41,7 +41,7 @@ fn advance(f: Feed, piece: &[u8]) -> Feed
     let over = left_over(count, piece.len());
     if n == 0 {
         let mut bytes = f.held;
-        put(&mut bytes, count, piece);
+        put_fitting(&mut bytes, count, piece);
         return Feed {
             next: f.next,
             held: bytes,
@@ -50,7 +50,7 @@ fn advance(f: Feed, piece: &[u8]) -> Feed
     }
     let start = piece.len() - over;
     let mut bytes: [u8; 4] = [0; 4];
-    put(&mut bytes, 0, &piece[start..]);
+    put_fitting(&mut bytes, 0, &piece[start..]);
     Feed {
         next: f.next + n as u64,
         held: bytes,
@@ -63,8 +63,8 @@ fn put_joined(memory: &mut [u8], at: usize, head: &[u8], tail: &[u8])
     requires { ⌜ at + (length (now head) + length (now tail)) ≤ length (now memory) ⌝ }
     ensures { λ _. ⌜ now (memory .exit) ≡ putInto (now (memory .entry)) at (now (head .entry) ++ now (tail .entry)) ⌝ }
 {
-    put(memory, at, head);
-    put(memory, at + head.len(), tail);
+    put_fitting(memory, at, head);
+    put_fitting(memory, at + head.len(), tail);
 }
 
 // The completed entries into list memory: the held bytes, then the piece's.
@@ -116,14 +116,14 @@ fn feed_status(z: Sizes, a: Slot, p: Slot, list: &[u8], f: Feed, piece: &[u8]) -
 }
 
 // A piece of bytes: the entries that it completes go into list memory, the rest is held. A refusal changes nothing.
-pub fn feed_into(z: Sizes, a: Slot, p: Slot, list: &mut [u8], f: Feed, piece: &[u8]) -> Fed
+pub fn feed_into(z: Sizes, a: Slot, p: Slot, list: &mut [u8], f: Feed, piece: &[u8]) -> FeedResult
     ensures { λ r. ⌜ lentFeed r (now (list .exit)) ≡ feedReport z a p (now (list .entry)) f (now (piece .entry)) ⌝ }
 {
     let status = feed_status(z, a, p, list, f, piece);
     if status.number() != 0 {
-        return Fed { status, feed: f };
+        return FeedResult { status, feed: f };
     }
     put_completed(list, f, piece);
     let feed = advance(f, piece);
-    Fed { status, feed }
+    FeedResult { status, feed }
 }

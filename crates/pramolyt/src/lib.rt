@@ -2,7 +2,8 @@
 // the caller keeps; each call answers document 01's number (What the engine has, and What the host hears). Each name ends in
 // the edition of the record and of the arguments: a change of either changes the names, here and in the header.
 ghost use mathlib.Core.Path.{_≡_};
-ghost use Rattle.pramolyt.specs.Exports.{made, makeImage, posted, postImage, changed, storeImage, writeImage, ran, runImage, filed, packFile, unpackFile};
+ghost use Rattle.pramolyt.specs.Exports.{made, makeImage, posted, postImage, changed, storeImage, writeImage, ran, runImage, received, feedImage, filed, packFile, unpackFile};
+ghost use Rattle.feeds.specs.Feeds.{startAt};
 
 mod image;
 

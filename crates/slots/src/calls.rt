@@ -1,5 +1,8 @@
 // What post, store and window write answer, of a well formed record.
 ghost use mathlib.Core.Path.{_≡_};
+ghost use Prim.Native.Nat.{_+_, _≤_};
+ghost use lib.ListN.{length};
+ghost use Rattle.lemmas.specs.Memory.{putInto};
 ghost use Rattle.answers.specs.Reports.{reportOf};
 ghost use Rattle.slots.specs.Calls.{putFitting, postReport, holdsAny, lent, storeReport, writeReport};
 use crate::record::Sizes;
@@ -9,8 +12,20 @@ use lists::Illegal;
 use lists::Span;
 use lists::first_illegal;
 
-// Bytes into a memory, from a place on, where they fit.
-pub fn put(memory: &mut [u8], at: usize, bytes: &[u8])
+// Bytes into a memory, from a place on.
+fn put(memory: &mut [u8], at: usize, bytes: &[u8])
+    requires { ⌜ at + length (now bytes) ≤ length (now memory) ⌝ }
+    ensures { λ _. ⌜ now (memory .exit) ≡ putInto (now (memory .entry)) at (now (bytes .entry)) ⌝ }
+{
+    let mut k: usize = 0;
+    while k < bytes.len() {
+        memory[at + k] = bytes[k];
+        k += 1;
+    }
+}
+
+// The same where they fit, and nothing where they do not.
+pub fn put_fitting(memory: &mut [u8], at: usize, bytes: &[u8])
     ensures { λ _. ⌜ now (memory .exit) ≡ putFitting (now (memory .entry)) at (now (bytes .entry)) ⌝ }
 {
     if memory.len() < at {
@@ -19,11 +34,7 @@ pub fn put(memory: &mut [u8], at: usize, bytes: &[u8])
     if memory.len() - at < bytes.len() {
         return;
     }
-    let mut k: usize = 0;
-    while k < bytes.len() {
-        memory[at + k] = bytes[k];
-        k += 1;
-    }
+    put(memory, at, bytes);
 }
 
 // Whether n entries from `first` on have one of a slot's list among them.

@@ -7,12 +7,12 @@ use borrow.Author.Tests.{not-true, not-false}
 use lib.ListN.{length}
 use Rattle.feeds.specs.Feeds.{feedOk}
 use Rattle.feeds.proofs.Holding.{few, count-is}
-use Rattle.feeds.proofs.Reporting.{good-next, good-held, hear-malformed, hear-wrong-size, hear-placed}
-use Rattle.feeds.proofs.feed_status.Statement.{statement}
-use Rattle.feeds.proofs.feed_status.Tie as tie
+use Rattle.feeds.proofs.Reporting.{good-next, good-held, feed-malformed, feed-wrong-size, feed-placed}
+use Rattle.feeds.proofs.pieces.feed_status.Statement.{statement}
+use Rattle.feeds.proofs.pieces.feed_status.Tie as tie
 
 good : (c : tie.Else1) → let s = c .before .before .before .before .args in feedOk (s .z) (s .f) ≡ true
-good c = sym (c .before .is-good .ensures) ∙ not-false (c .before .is-good .result) (c .if1 .left)
+good c = sym (c .before .well-formed .ensures) ∙ not-false (c .before .well-formed .result) (c .if1 .left)
 
 four : (c : tie.Else1) → length (c .before .before .before .before .args .f .held) ≡ 4
 four c = search needs
@@ -24,13 +24,13 @@ next c = let s = c .before .before .before .before .args in good-next (s .z) (s 
 short : (c : tie.After-shared-slice-known2) → length (c .before .before .args .piece .now) < 18446744073709551616
 short c = omega arith
 
-is-good-requires : tie.Need-is-good-requires
-is-good-requires c κs = search needs
+well-formed-requires : tie.Need-well-formed-requires
+well-formed-requires c κs = search needs
 
 returns : tie.Need-returns
 returns c =
     let s = c .before .before .before .before .args in
-    hear-malformed (s .z) (s .a) (s .p) (s .list .now) (s .f) (s .piece .now) (sym (c .before .is-good .ensures) ∙ not-true (c .before .is-good .result) (c .if1 .taken))
+    feed-malformed (s .z) (s .a) (s .p) (s .list .now) (s .f) (s .piece .now) (sym (c .before .well-formed .ensures) ∙ not-true (c .before .well-formed .result) (c .if1 .taken))
 
 cast-if2 : tie.Need-cast-if2
 cast-if2 c = search needs
@@ -42,7 +42,7 @@ returns-2 : tie.Need-returns-2
 returns-2 c =
     let else = c .before .before in
     let s = else .before .before .before .before .args in
-    hear-wrong-size (s .z) (s .a) (s .p) (s .list .now) (s .f) (s .piece .now) (good else) (c .if2 .taken)
+    feed-wrong-size (s .z) (s .a) (s .p) (s .list .now) (s .f) (s .piece .now) (good else) (c .if2 .taken)
 
 cast-entries-in : tie.Need-cast-entries-in
 cast-entries-in c = search needs
@@ -73,8 +73,8 @@ held-requires-2 c κs =
     let s = else .before .before .before .before .args in
     omega (arith, next else, short (else .before .before), e .entries-in .ensures, few (s .f) (good-held (s .z) (s .f) (good else)))
 
-placed-requires : tie.Need-placed-requires
-placed-requires c κs = search needs
+place-status-requires : tie.Need-place-status-requires
+place-status-requires c κs = search needs
 
 returns-3 : tie.Need-returns-3
 returns-3 c =
@@ -85,15 +85,15 @@ returns-3 c =
     let else = sized .before .before in
     let s = else .before .before .before .before .args in
     let many = count-is (s .f) (s .piece .now) (good-held (s .z) (s .f) (good else)) (four else) (e .entries-in .result) _ (e .entries-in .ensures) refl in
-    c .placed .ensures
-    ∙ hear-placed (s .z) (s .a) (s .p) (s .list .now) (s .f) (s .piece .now) (good else) (sized .if2 .left) (e .entries-in .result) (held .held .result || held2 .held2 .result) many
+    c .place-status .ensures
+    ∙ feed-placed (s .z) (s .a) (s .p) (s .list .now) (s .f) (s .piece .now) (good else) (sized .if2 .left) (e .entries-in .result) (held .held .result || held2 .held2 .result) many
     (ap₂ _||_ (held .held .ensures) (held2 .held2 .ensures))
 
 pub feed-status-spec : {M : Type 1} → statement M
 feed-status-spec =
     tie.close
     (tie.spec
-    is-good-requires
+    well-formed-requires
     returns
     cast-if2
     mul-if2
@@ -104,5 +104,5 @@ feed-status-spec =
     sub-past
     held-requires
     held-requires-2
-    placed-requires
+    place-status-requires
     returns-3)

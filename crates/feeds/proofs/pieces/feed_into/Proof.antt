@@ -6,8 +6,8 @@ use Rattle.answers.specs.Reports.{reportOf}
 use Rattle.feeds.specs.Feeds.{joined, entriesIn}
 use Rattle.feeds.proofs.Stores.{Fits}
 use Rattle.feeds.proofs.Reporting.{good-next, good-held, ends-refused, ends-fit, ends-room, ends-done}
-use Rattle.feeds.proofs.feed_into.Statement.{statement}
-use Rattle.feeds.proofs.feed_into.Tie as tie
+use Rattle.feeds.proofs.pieces.feed_into.Statement.{statement}
+use Rattle.feeds.proofs.pieces.feed_into.Tie as tie
 
 -- answer 0
 none : (c : tie.Else1) → reportOf (c .before .before .feed-status .result) .number ≡ 0
@@ -45,8 +45,8 @@ put-completed-requires c κs =
       ends-room (s .z) (s .a) (s .p) (s .list .now) (s .f) (s .piece .now) (reportOf (h .feed-status .result)) (h .feed-status .ensures) (none else),
     )
 
-after-requires : tie.Need-after-requires
-after-requires c κs =
+advance-requires : tie.Need-advance-requires
+advance-requires c κs =
     let else = c .before .before .before .before in
     let s = else .before .before .before .before .before .before .args in
     (good-held (s .z) (s .f) (fits else .0), omega (arith, good-next (s .z) (s .f) (fits else .0), fits else .1))
@@ -61,7 +61,7 @@ returns-2 c =
     let h = else .before .before in
     let s = h .before .before .before .before .args in
     ends-done (s .z) (s .a) (s .p) (s .list .now) (s .f) (s .piece .now) (reportOf (h .feed-status .result)) (h .feed-status .ensures) (none else) _ _
-    (c .after .ensures) (put .put-completed .ensures)
+    (c .advance .ensures) (put .put-completed .ensures)
 
 pub feed-into-spec : {M : Type 1} → statement M
 feed-into-spec =
@@ -72,6 +72,6 @@ feed-into-spec =
     same-length
     returns
     put-completed-requires
-    after-requires
+    advance-requires
     same-length-2
     returns-2)
