@@ -23,10 +23,12 @@ impl Board {
             };
         }
         let fed = feed_into(z, a.slot(), p, list, feed, piece);
+        let status = fed.status;
+        let after = fed.feed;
         FeedAnswer {
-            status: fed.status,
+            status,
             board: self,
-            feed: fed.feed,
+            feed: after,
         }
     }
 }

@@ -30,7 +30,7 @@ same-length c = search needs
 
 returns-2 : tie.Need-returns-2
 returns-2 c =
-    let done = c .before .before in
+    let done = c .before .before .before in
     let o = done .before .before in
     let s = o .before .before .before .before .before .before .before .before .args in
     feed-by _ _ _ _ (well (o .before)) _
