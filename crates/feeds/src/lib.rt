@@ -9,7 +9,6 @@ pub use pieces::feed_into;
 use slots::Sizes;
 
 // The next list entry, and up to four held bytes of an unfinished one; the unused bytes are zero.
-#[repr(C)]
 pub struct Feed {
     pub next: u64,
     pub held: [u8; 4],

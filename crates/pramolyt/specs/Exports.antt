@@ -89,7 +89,10 @@ unfoldable pub runImage : List ℕ → ℕ → List ℕ → List ℕ → List �
 runImage w budget list display virt =
     ofImage w (ranBy (runCall budget list (machine (boardOf w) display virt))) (ran 1 w 0 display virt)
 
--- ---- feed (02, R-5): both records and list memory after it
+-- ---- feed (02, R-5): both records and list memory after it. A feed record is lent by its three fields.
+abbrev pub feedOf : ℕ → List ℕ → ℕ → Feed
+feedOf next held count = record { next = next; held = held; count = count }
+
 pub record Received : Type 0 where
   pub number : ℕ
   pub words : List ℕ

@@ -29,8 +29,8 @@ same-length c = search needs
 returns-2 : tie.Need-returns-2
 returns-2 c =
     let encoded = c .before in
-    let answer = encoded .before .before .before in
-    let decoded = answer .before .before in
+    let answer = encoded .before .before .before .before .before in
+    let decoded = answer .before .before .before .before .before in
     let flags = decoded .before in
     feed-done _ _ (flags .before .flags-ok .ensures) (flags .if1 .left) _ (decoded .decode .ensures) (answer .feed .result) _ (encoded .encode .ensures) _ (c .number .ensures) _ _ _ _ (answer .feed .ensures)
 
