@@ -16,7 +16,7 @@
  *     stty -F /dev/ttyS0 115200 crtscts && target/serial /dev/ttyS0
  *
  * Without an argument the bytes come from standard input, a file or a pipe. Each fault is a line on standard error. The status
- * is 0 where there was none, 1 where there was, 2 where the line could not be opened.
+ * is 0 where there was none, 1 where there was, 2 where the controller could not begin.
  */
 #define _POSIX_C_SOURCE 200809L
 #include <errno.h>
@@ -55,8 +55,8 @@ typedef struct {
 /* The list that comes in is not posted; its other bytes are skipped. The place is that of an illegal entry. */
 static void drop(controller *c, const char *call, uint32_t answer, uint64_t place)
 {
-    fprintf(stderr, "serial: list %lu, %zu entries from entry %zu on, is dropped: %s answers %" PRIu32, c->lists, c->count,
-            c->start, call, answer);
+    fprintf(stderr, "serial: list %lu (start %zu, count %zu) is dropped: %s answers %" PRIu32, c->lists, c->start, c->count,
+            call, answer);
     if (answer == PRAMOLYT_ILLEGAL_ENTRY)
         fprintf(stderr, " at entry %" PRIu64, place);
     fprintf(stderr, ", %s\n", pramolyt_answer_text(answer));
@@ -194,9 +194,9 @@ static void take(controller *c, const uint8_t *bytes, size_t length)
 static void break_off(controller *c, const char *why)
 {
     if (c->bytes_left > 0)
-        fprintf(stderr, "serial: %s inside list %lu, %zu bytes short; the list is dropped\n", why, c->lists, c->bytes_left);
+        fprintf(stderr, "serial: list %lu is dropped: %s with %zu of its bytes to come\n", c->lists, why, c->bytes_left);
     else if (c->header_bytes > 0)
-        fprintf(stderr, "serial: %s inside a header, %zu bytes short\n", why, HEADER - c->header_bytes);
+        fprintf(stderr, "serial: a header is dropped: %s with %zu of its bytes to come\n", why, HEADER - c->header_bytes);
     else
         return;
     c->faults++;
@@ -210,8 +210,8 @@ static void report(controller *c, const char *what)
     c->faults++;
 }
 
-/* Waits for bytes, and while the board has something to draw only looks: 1 where there are some, 0 where there are none yet, -1
- * where the line cannot be waited for. */
+/* Waits for bytes, and while the board has something to draw only looks: 1 where there are some, 0 where there are none yet,
+ * -1 where the line cannot be waited for. */
 static int wait_for_bytes(controller *c, int line)
 {
     struct pollfd waiting = {line, POLLIN, 0};
@@ -226,12 +226,12 @@ static int wait_for_bytes(controller *c, int line)
         return -1;
     }
     if (ready == 0 && idle)
-        break_off(c, "the line is silent");
+        break_off(c, "the line fell silent");
     return ready > 0;
 }
 
-/* Reads what the line has, at most a piece: the bytes read, 0 where there are none yet, -1 where the line has ended. A terminal
- * that is hung up, as an unplugged one is, ends as a file does or with an error. */
+/* Reads what the line has, at most a piece: the bytes read, 0 where there are none yet, -1 where the line has ended. A
+ * terminal that is hung up, as an unplugged one is, ends as a file does or with an error. */
 static ssize_t read_piece(controller *c, int line, uint8_t *piece)
 {
     int ready = wait_for_bytes(c, line);
@@ -312,7 +312,10 @@ int main(int argc, char **argv)
         return 2;
     memset(&c, 0, sizeof c);
     c.terminal = isatty(line);
-    pramolyt_make(&c.board, WIDTH, HEIGHT, ENTRIES);
+    if (pramolyt_make(&c.board, WIDTH, HEIGHT, ENTRIES) != PRAMOLYT_DONE) {
+        fputs("serial: there is no board of these sizes\n", stderr);
+        return 2;
+    }
     serve(&c, line);
     if (fflush(stdout) != 0 || ferror(stdout))
         report(&c, "the board cannot be printed");

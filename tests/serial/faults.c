@@ -1,5 +1,5 @@
-/* For builds of the controller in which these take the place of read, poll and pramolyt_run: signals come between, there are no
- * bytes after all, reads are short; and run 4 is lent a list memory of illegal entries. */
+/* For builds of the controller in which these take the place of read, poll and pramolyt_run: signals come between, there are
+ * no bytes after all, reads are short; and run 4 is lent a list memory of illegal entries. */
 #define _POSIX_C_SOURCE 200809L
 #include <errno.h>
 #include <poll.h>

@@ -1,5 +1,5 @@
-/* The host's end of a serial line, for tests: `host CUTS PROGRAM [BYTES]` runs the program with the path of a pseudo-terminal as
- * its argument, writes standard input to the other end in pieces, hangs up when all is read, and ends with the program's
+/* The host's end of a serial line, for tests: `host CUTS PROGRAM [BYTES]` runs the program with the path of a pseudo-terminal
+ * as its argument, writes standard input to the other end in pieces, hangs up when all is read, and ends with the program's
  * status. CUTS is `one`, a byte at a time; `growing`, 1, 2, 3 bytes and so on to 13 and again; `random`, 1 to 40 bytes, by a
  * fixed seed; `slow`, 29 bytes with a pause after each piece; or `whole`. With BYTES, the line is silent for 1.3 seconds
  * after so many. It gives up after 4 seconds. */
