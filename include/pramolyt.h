@@ -34,8 +34,8 @@
 #define pramolyt_make pramolyt_make_r1
 #define pramolyt_post pramolyt_post_r1
 #define pramolyt_store pramolyt_store_r1
-#define pramolyt_feed_start pramolyt_feed_start_r1
-#define pramolyt_feed pramolyt_feed_r1
+#define pramolyt_feed_start_fields pramolyt_feed_start_fields_r1
+#define pramolyt_feed_fields pramolyt_feed_fields_r1
 #define pramolyt_window_write pramolyt_window_write_r1
 #define pramolyt_run pramolyt_run_r1
 #define pramolyt_pack pramolyt_pack_r1
@@ -127,9 +127,18 @@ uint32_t pramolyt_post(pramolyt_board *board, uint64_t *place, const uint8_t *li
 uint32_t pramolyt_store(pramolyt_board *board, uint8_t *list, size_t list_len, size_t first, const uint8_t *bytes,
                         size_t bytes_len);
 
+/* pramolyt_feed_start and pramolyt_feed, below, for callers in other languages: with the fields of the feed record one by
+ * one. `held` has 4 bytes. */
+void pramolyt_feed_start_fields(uint64_t *next, uint8_t *held, uint32_t *count, uint64_t entry);
+uint32_t pramolyt_feed_fields(pramolyt_board *board, uint64_t *next, uint8_t *held, uint32_t *count, uint8_t *list,
+                              size_t list_len, const uint8_t *piece, size_t piece_len);
+
 /* A feed record into *feed, whatever stood there, that starts at list entry `entry` and holds no bytes. Any number will do;
  * with one above the board's entries every feed answers 1. */
-void pramolyt_feed_start(pramolyt_feed_record *feed, uint64_t entry);
+static inline void pramolyt_feed_start(pramolyt_feed_record *feed, uint64_t entry)
+{
+    pramolyt_feed_start_fields(&feed->next, feed->held, &feed->count, entry);
+}
 
 /* Takes the next piece of a list, of any length, 0 too: 0, 1, 2, 4 or 8. Each entry of 5 bytes that the held bytes and the
  * piece complete goes into list memory, from entry feed->next on, and the bytes left over are held. So it does not matter
@@ -140,8 +149,11 @@ void pramolyt_feed_start(pramolyt_feed_record *feed, uint64_t entry);
  * where an entry that the piece completes is past the end of list memory, or is of a list in a slot. Bytes that complete no
  * entry are held anywhere, at the end of list memory and on an entry in a slot too. In a refusal nothing of the piece is
  * taken; with 8, run until the list has left its slot and feed the same piece again. */
-uint32_t pramolyt_feed(pramolyt_board *board, pramolyt_feed_record *feed, uint8_t *list, size_t list_len,
-                       const uint8_t *piece, size_t piece_len);
+static inline uint32_t pramolyt_feed(pramolyt_board *board, pramolyt_feed_record *feed, uint8_t *list, size_t list_len,
+                                     const uint8_t *piece, size_t piece_len)
+{
+    return pramolyt_feed_fields(board, &feed->next, feed->held, &feed->count, list, list_len, piece, piece_len);
+}
 
 /* Writes bytes from `offset` on into buffer `number`, 0 for display and 1 for virtual, which is the one that is lent: 0,
  * 1, 2, 4 or 7. It is 2 where number is above 1, or buffer_len is not width * height. */

@@ -120,7 +120,7 @@ pub extern "C" fn pramolyt_run_r1(
 }
 
 #[no_mangle]
-pub extern "C" fn pramolyt_feed_start_r1(
+pub extern "C" fn pramolyt_feed_start_fields_r1(
     next: &mut u64,
     held: &mut [u8; 4],
     count: &mut u32,
@@ -136,7 +136,7 @@ pub extern "C" fn pramolyt_feed_start_r1(
 }
 
 #[no_mangle]
-pub extern "C" fn pramolyt_feed_r1(
+pub extern "C" fn pramolyt_feed_fields_r1(
     board: &mut [u32; WORDS],
     next: &mut u64,
     held: &mut [u8; 4],

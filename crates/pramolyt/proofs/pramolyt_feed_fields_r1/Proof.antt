@@ -2,8 +2,8 @@
 -- both records after it are handed back (`feed-done`).
 use borrow.Author.Needs.{needs}
 use Rattle.pramolyt.proofs.Calls.{feed-refused, feed-done}
-use Rattle.pramolyt.proofs.pramolyt_feed_r1.Statement.{statement}
-use Rattle.pramolyt.proofs.pramolyt_feed_r1.Tie as tie
+use Rattle.pramolyt.proofs.pramolyt_feed_fields_r1.Statement.{statement}
+use Rattle.pramolyt.proofs.pramolyt_feed_fields_r1.Tie as tie
 
 flags-ok-requires : tie.Need-flags-ok-requires
 flags-ok-requires c κs = search needs
@@ -34,8 +34,8 @@ returns-2 c =
     let flags = decoded .before in
     feed-done _ _ (flags .before .flags-ok .ensures) (flags .if1 .left) _ (decoded .decode .ensures) (answer .feed .result) _ (encoded .encode .ensures) _ (c .number .ensures) _ _ _ _ (answer .feed .ensures)
 
-pub pramolyt-feed-r1-spec : {M : Type 1} → statement M
-pramolyt-feed-r1-spec =
+pub pramolyt-feed-fields-r1-spec : {M : Type 1} → statement M
+pramolyt-feed-fields-r1-spec =
     tie.close
     (tie.spec
     flags-ok-requires
