@@ -2,7 +2,7 @@
 
 use crate::call::Call;
 use pramolyt::{Answer, Board};
-use reference::{Record, Report};
+use reference::{Feed, Record, Report};
 
 /// The memories that a side lends to its calls.
 #[derive(Clone)]
@@ -29,6 +29,8 @@ impl Memories {
 pub struct Engine {
     /// Its board.
     pub board: Board,
+    /// The feed record that its last feed left.
+    pub feed: pramolyt::Feed,
     /// Its memories.
     pub memories: Memories,
 }
@@ -36,7 +38,11 @@ pub struct Engine {
 impl Engine {
     /// One call.
     pub fn call(&mut self, call: &Call) -> Report {
-        let Engine { board, memories } = self;
+        let Engine {
+            board,
+            feed,
+            memories,
+        } = self;
         let answer = match call {
             Call::Make {
                 width,
@@ -49,6 +55,14 @@ impl Engine {
             }
             Call::Post { start, count } => board.post(&memories.list, size(*start), size(*count)),
             Call::Store { first, bytes } => board.store(&mut memories.list, size(*first), bytes),
+            Call::FeedStart { entry } => {
+                *feed = pramolyt::Feed::start(size(*entry));
+                Answer::Done { steps: 0 }
+            }
+            Call::Feed { feed: given, piece } => {
+                *feed = engine_feed(given);
+                board.feed(feed, &mut memories.list, piece)
+            }
             Call::WindowWrite {
                 number,
                 offset,
@@ -70,6 +84,11 @@ impl Engine {
     }
 }
 
+/// The engine's feed record with the parts of the reference's.
+pub fn engine_feed(feed: &Feed) -> pramolyt::Feed {
+    pramolyt::Feed::from_parts(size(feed.next), feed.held, feed.count)
+}
+
 /// A usize has 64 bits wherever the library is.
 fn size(number: u64) -> usize {
     number as usize
@@ -88,6 +107,8 @@ fn report(answer: Answer) -> Report {
 pub struct Reference {
     /// Its board record.
     pub record: Record,
+    /// The feed record that its last feed left.
+    pub feed: Feed,
     /// Its memories.
     pub memories: Memories,
 }
@@ -95,7 +116,11 @@ pub struct Reference {
 impl Reference {
     /// One call.
     pub fn call(&mut self, call: &Call) -> Report {
-        let Reference { record, memories } = self;
+        let Reference {
+            record,
+            feed,
+            memories,
+        } = self;
         match call {
             Call::Make {
                 width,
@@ -109,6 +134,14 @@ impl Reference {
             Call::Post { start, count } => reference::post(record, &memories.list, *start, *count),
             Call::Store { first, bytes } => {
                 reference::store(record, &mut memories.list, *first, bytes)
+            }
+            Call::FeedStart { entry } => {
+                *feed = Feed::start(*entry);
+                Report::plain(0)
+            }
+            Call::Feed { feed: given, piece } => {
+                *feed = *given;
+                reference::feed(record, feed, &mut memories.list, piece)
             }
             Call::WindowWrite {
                 number,
