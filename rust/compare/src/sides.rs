@@ -2,6 +2,8 @@
 
 use crate::call::Call;
 use pramolyt::{Answer, Board};
+use reference::entries::entry_at;
+use reference::state::State;
 use reference::{Feed, Record, Report};
 
 /// The memories that a side lends to its calls.
@@ -162,9 +164,76 @@ impl Reference {
         }
     }
 
-    /// The steps that a run would take, where they are fewer than the limit.
+    /// The steps that a run would take, where they are fewer than the limit. Nothing is drawn.
     pub fn steps_left(&self, limit: u64) -> Option<u64> {
-        let report = self.clone().call(&Call::Run { budget: limit });
-        (report.steps < limit).then_some(report.steps)
+        let Reference {
+            record, memories, ..
+        } = self;
+        if record.malformed() {
+            return Some(0);
+        }
+        let mut state = record.state();
+        let mut steps = finish(&mut state);
+        let mut next = u64::from(record.next);
+        for (start, count) in record.taken_spans() {
+            for place in next.max(start)..start + count {
+                let Some((number, data)) = entry_at(&memories.list, place as usize) else {
+                    return (steps < limit).then_some(steps);
+                };
+                state.write(number, data);
+                steps += 1 + finish(&mut state);
+                if steps >= limit {
+                    return None;
+                }
+            }
+            next = 0;
+        }
+        (steps < limit).then_some(steps)
+    }
+}
+
+/// Ends the command under way; the pixels that it had left.
+fn finish(state: &mut State) -> u64 {
+    let pixels = state.pixels_left();
+    if state.under_way {
+        state.finish_command();
+    }
+    pixels
+}
+
+#[cfg(test)]
+mod tests {
+    use super::{Memories, Reference};
+    use crate::call::Call;
+    use crate::lists::{Size, list};
+    use crate::random::Random;
+    use crate::spoil::anywhere;
+    use reference::{Feed, Record};
+
+    #[test]
+    fn steps_are_counted_as_a_run_takes_them() {
+        const LIMIT: u64 = 60;
+        let size = Size {
+            width: 8,
+            height: 4,
+        };
+        let mut random = Random::new(1);
+        let mut counted = 0;
+        for _ in 0..2_000 {
+            let mut side = Reference {
+                record: anywhere(&mut random, Record::fresh(8, 4, 12)),
+                feed: Feed::start(0),
+                memories: Memories {
+                    list: list(&mut random, size, 12),
+                    display: vec![0; 32],
+                    virt: vec![0; 32],
+                },
+            };
+            let left = side.steps_left(LIMIT);
+            let steps = side.call(&Call::Run { budget: LIMIT }).steps;
+            assert_eq!(left, (steps < LIMIT).then_some(steps));
+            counted += u64::from(left.is_some());
+        }
+        assert!((500..1_900).contains(&counted), "{counted}");
     }
 }
