@@ -212,13 +212,13 @@ mod tests {
 
     #[test]
     fn steps_are_counted_as_a_run_takes_them() {
-        const LIMIT: u64 = 60;
+        const LIMIT: u64 = 30;
         let size = Size {
             width: 8,
             height: 4,
         };
         let mut random = Random::new(1);
-        let mut counted = 0;
+        let (mut counted, mut more) = (0, 0);
         for _ in 0..2_000 {
             let mut side = Reference {
                 record: anywhere(&mut random, Record::fresh(8, 4, 12)),
@@ -232,8 +232,9 @@ mod tests {
             let left = side.steps_left(LIMIT);
             let steps = side.call(&Call::Run { budget: LIMIT }).steps;
             assert_eq!(left, (steps < LIMIT).then_some(steps));
-            counted += u64::from(left.is_some());
+            counted += u64::from(left.is_some_and(|left| left > 0));
+            more += u64::from(left.is_none());
         }
-        assert!((500..1_900).contains(&counted), "{counted}");
+        assert!(counted > 100 && more > 100, "{counted}, {more}");
     }
 }

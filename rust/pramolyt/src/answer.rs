@@ -19,7 +19,7 @@ pub enum Answer {
     WrongSize,
     /// 3: a list of no entries.
     NoEntries,
-    /// 4: a span passes the end of its memory.
+    /// 4: a span passes the end of its memory; of a feed, the entries that the piece completes do.
     PastTheEnd,
     /// 5: both slots are taken.
     SlotsFull,
@@ -30,7 +30,7 @@ pub enum Answer {
     },
     /// 7: a window write while a slot is taken.
     Busy,
-    /// 8: a store or a piece of a feed touches an entry of a list in a slot.
+    /// 8: a store touches, or a feed's piece completes, an entry of a list in a slot.
     EntryHeld,
     /// 9: a run came to an illegal entry.
     IllegalFetch {
@@ -105,7 +105,8 @@ impl fmt::Display for Answer {
             Answer::Done { steps } => write!(f, "done, {steps} steps"),
             Answer::Malformed => write!(
                 f,
-                "the board record is damaged or was never made, or the feed record is bad; make it anew"
+                "the board record or the feed record is damaged or was never made, or the feed starts past the end of list \
+                 memory; make it anew"
             ),
             Answer::WrongSize => write!(
                 f,
