@@ -1,7 +1,7 @@
 //! Random calls that go by the board's state: most are done, and each ground of refusal comes up.
 
 use crate::call::Call;
-use crate::feeds::Line;
+use crate::feeds::{self, Line};
 use crate::lists::{Size, list};
 use crate::random::Random;
 use crate::sides::Reference;
@@ -26,7 +26,7 @@ pub fn call(random: &mut Random, side: &Reference, stored: Span, line: &mut Line
         0 => make(random),
         1 => post(random, record, stored),
         2 => store(random, record),
-        3 => line.start(random, record),
+        3 => feeds::start(random, record),
         4 => line.feed(random, record),
         5 => window_write(random, record),
         _ => Call::Run {

@@ -26,19 +26,6 @@ impl Line {
         }
     }
 
-    /// A start: anywhere in list memory, at a slot's list, at the end or past it.
-    pub fn start(&self, random: &mut Random, record: &Record) -> Call {
-        let entries = u64::from(record.entries);
-        let entry = match random.weighted(&[30, 6, 3, 3, 2]) {
-            0 => random.below(entries),
-            1 => (u64::from(record.active_start) + random.below(3)).saturating_sub(1),
-            2 => entries,
-            3 => entries.saturating_sub(1 + random.below(3)),
-            _ => extreme(random, entries),
-        };
-        Call::FeedStart { entry }
-    }
-
     /// A piece, most often the line's next.
     pub fn feed(&mut self, random: &mut Random, record: &Record) -> Call {
         let entries = u64::from(record.entries);
@@ -55,16 +42,13 @@ impl Line {
         let length = length(random, &feed, entries) as usize;
         let size = Size::of(record);
         if !is_next {
-            let piece = from(random, size, &feed, length);
+            let piece = from(random, size, feed.count as usize, length);
             return Call::Feed { feed, piece };
         }
         if self.coming.len() < length {
-            let held = Feed {
-                count: (feed.count + self.coming.len() as u32) % ENTRY as u32,
-                ..feed
-            };
-            let more = from(random, size, &held, length - self.coming.len() + ENTRY);
-            self.coming.extend(more);
+            let before = feed.count as usize + self.coming.len();
+            let more = length - self.coming.len() + ENTRY;
+            self.coming.extend(from(random, size, before, more));
         }
         let piece = self.coming[..length].to_vec();
         Call::Feed { feed, piece }
@@ -80,6 +64,19 @@ impl Line {
         self.older = *given;
         self.feed = left;
     }
+}
+
+/// A start: anywhere in list memory, at a slot's list, at the end or past it.
+pub fn start(random: &mut Random, record: &Record) -> Call {
+    let entries = u64::from(record.entries);
+    let entry = match random.weighted(&[30, 6, 3, 3, 2]) {
+        0 => random.below(entries),
+        1 => (u64::from(record.active_start) + random.below(3)).saturating_sub(1),
+        2 => entries,
+        3 => entries.saturating_sub(1 + random.below(3)),
+        _ => extreme(random, entries),
+    };
+    Call::FeedStart { entry }
 }
 
 /// Bytes of a piece: none, a few, up to the end of its entry or of list memory, or many.
@@ -98,11 +95,11 @@ fn length(random: &mut Random, feed: &Feed, entries: u64) -> u64 {
     }
 }
 
-/// So many bytes of a list, those left out that a feed record already holds.
-fn from(random: &mut Random, size: Size, feed: &Feed, length: usize) -> Vec<u8> {
-    let held = feed.count as usize % ENTRY;
-    let mut bytes = list(random, size, (held + length).div_ceil(ENTRY));
-    bytes.drain(..held.min(bytes.len()));
+/// So many bytes of a list, which go on where `before` bytes of it have come.
+fn from(random: &mut Random, size: Size, before: usize, length: usize) -> Vec<u8> {
+    let come = before % ENTRY;
+    let mut bytes = list(random, size, (come + length).div_ceil(ENTRY));
+    bytes.drain(..come.min(bytes.len()));
     bytes.truncate(length);
     bytes
 }
