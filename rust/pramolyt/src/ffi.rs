@@ -1,7 +1,7 @@
 //! The functions of include/pramolyt.h. Their symbols end in the edition of the record and of the arguments, so that an
 //! archive of another edition does not link.
 
-use crate::Board;
+use crate::{Board, Feed};
 
 unsafe extern "C" {
     #[link_name = "pramolyt_make_r1"]
@@ -25,6 +25,19 @@ unsafe extern "C" {
         first: usize,
         bytes: *const u8,
         bytes_len: usize,
+    ) -> u32;
+
+    #[link_name = "pramolyt_feed_start_r1"]
+    pub fn pramolyt_feed_start(feed: *mut Feed, entry: u64);
+
+    #[link_name = "pramolyt_feed_r1"]
+    pub fn pramolyt_feed(
+        board: *mut Board,
+        feed: *mut Feed,
+        list: *mut u8,
+        list_len: usize,
+        piece: *const u8,
+        piece_len: usize,
     ) -> u32;
 
     #[link_name = "pramolyt_window_write_r1"]
