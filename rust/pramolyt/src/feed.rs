@@ -8,9 +8,9 @@ const HELD: usize = 4;
 #[derive(Clone, Debug, PartialEq, Eq)]
 #[repr(C)]
 pub struct Feed {
-    next: u64,
-    held: [u8; HELD],
-    count: u32,
+    pub(crate) next: u64,
+    pub(crate) held: [u8; HELD],
+    pub(crate) count: u32,
 }
 
 impl Feed {
@@ -18,8 +18,15 @@ impl Feed {
     /// list memory every piece is refused.
     pub fn start(entry: usize) -> Feed {
         let mut feed = Feed::from_parts(usize::MAX, [u8::MAX; HELD], u32::MAX);
-        // SAFETY: the library writes the feed record and nothing else.
-        unsafe { ffi::pramolyt_feed_start(&mut feed, entry as u64) };
+        // SAFETY: the library writes the three fields, 4 bytes of `held`, and nothing else.
+        unsafe {
+            ffi::pramolyt_feed_start_fields(
+                &mut feed.next,
+                feed.held.as_mut_ptr(),
+                &mut feed.count,
+                entry as u64,
+            )
+        };
         feed
     }
 

@@ -1,7 +1,7 @@
 //! The functions of include/pramolyt.h. Their symbols end in the edition of the record and of the arguments, so that an
 //! archive of another edition does not link.
 
-use crate::{Board, Feed};
+use crate::Board;
 
 unsafe extern "C" {
     #[link_name = "pramolyt_make_r1"]
@@ -27,13 +27,15 @@ unsafe extern "C" {
         bytes_len: usize,
     ) -> u32;
 
-    #[link_name = "pramolyt_feed_start_r1"]
-    pub fn pramolyt_feed_start(feed: *mut Feed, entry: u64);
+    #[link_name = "pramolyt_feed_start_fields_r1"]
+    pub fn pramolyt_feed_start_fields(next: *mut u64, held: *mut u8, count: *mut u32, entry: u64);
 
-    #[link_name = "pramolyt_feed_r1"]
-    pub fn pramolyt_feed(
+    #[link_name = "pramolyt_feed_fields_r1"]
+    pub fn pramolyt_feed_fields(
         board: *mut Board,
-        feed: *mut Feed,
+        next: *mut u64,
+        held: *mut u8,
+        count: *mut u32,
         list: *mut u8,
         list_len: usize,
         piece: *const u8,

@@ -167,11 +167,13 @@ impl Board {
     /// # Ok::<(), Answer>(())
     /// ```
     pub fn feed(&mut self, feed: &mut Feed, list: &mut [u8], piece: &[u8]) -> Answer {
-        // SAFETY: as in store; board and feed are borrowed alone.
+        // SAFETY: as in store; board and feed are borrowed alone, and `held` has 4 bytes.
         let number = unsafe {
-            ffi::pramolyt_feed(
+            ffi::pramolyt_feed_fields(
                 self,
-                feed,
+                &mut feed.next,
+                feed.held.as_mut_ptr(),
+                &mut feed.count,
                 list.as_mut_ptr(),
                 list.len(),
                 piece.as_ptr(),
