@@ -431,6 +431,13 @@ void baseline_make(struct baseline *engine, int32_t width, int32_t height)
     engine->stale = true;
 }
 
+void baseline_post(struct baseline *engine, const uint8_t *list, size_t entries)
+{
+    (void)engine;
+    (void)list;
+    (void)entries;
+}
+
 uint64_t baseline_run(struct baseline *engine, const uint8_t *list, size_t entries, uint8_t *display, uint8_t *virt)
 {
     uint8_t *const buffers[2] = {display, virt};

@@ -20,6 +20,9 @@ struct baseline {
 /* A fresh engine for buffers of width * height bytes. */
 void baseline_make(struct baseline *engine, int32_t width, int32_t height);
 
+/* Before each run, its list is posted; this engine has nothing to do there. */
+void baseline_post(struct baseline *engine, const uint8_t *list, size_t entries);
+
 /* Runs a list of legal entries to its end and returns its steps: entries fetched and pixels visited. Entries are not
  * checked. The buffers do not overlap. */
 uint64_t baseline_run(struct baseline *engine, const uint8_t *list, size_t entries, uint8_t *display, uint8_t *virt);

@@ -433,6 +433,7 @@ static bool draws_the_same(const char *name, uint64_t budget)
     post();
     while (board.active_taken)
         steps += run(budget);
+    baseline_post(&engine, list, entries);
     const uint64_t baseline_steps = run_baseline(&of_baseline);
     const uint32_t scale = (board.pctrl >> 5 & 7) + 1;
     return same_number(name, "steps", steps, baseline_steps)
@@ -821,6 +822,7 @@ static void baseline_round(int repeats, struct timing *best)
 {
     double runs = 0;
     for (int i = 0; i < repeats; i++) {
+        baseline_post(&engine, list, entries);
         const double began = now();
         run_baseline(&of_library);
         runs += now() - began;

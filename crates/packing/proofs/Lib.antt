@@ -2,6 +2,7 @@ pub mod Runs
 pub mod Puts
 pub mod Searches
 pub mod Judges
+pub mod Fulls
 pub mod Answers
 pub mod Words
 pub mod Back

@@ -22,8 +22,8 @@ use Rattle.packing.specs.Conversions.{convertedTo, packOf, unpackOf}
 use Rattle.packing.specs.RoundTrip.{Bytes, LegalList, done, ComesBack, OneForm, Sizes}
 use Rattle.packing.proofs.Runs.{strung-agree}
 use Rattle.packing.proofs.Puts.{position-first, position-second, position-third}
-use Rattle.packing.proofs.Judges.{closing-third, closing-second, count-most, legal-real, legal-spare, legal-passes}
-use Rattle.packing.proofs.Judges.{legal-placed, all-four, four-all}
+use Rattle.packing.proofs.Judges.{closing-third, closing-second, count-most}
+use Rattle.packing.proofs.Fulls.{legal-real, legal-spare, legal-passes, legal-placed, all-four, four-all}
 use Rattle.packing.proofs.Answers.{packSize, pack-judged, unpackSize, unpack-judged, illegalOf, sound, failingOf, Unpacks}
 use Rattle.packing.proofs.Answers.{unpacks, list-size, packed-size}
 use Rattle.packing.proofs.Words.{join-small}

@@ -8,7 +8,8 @@ use native.Mathlib.Omega.{arith}
 use borrow.Author.Tests.{eqb-true, eqb-false}
 use lib.Dec.{eqb}
 use Rattle.lemmas.proofs.Booleans.{by-cases, and-left, and-right, and-both}
-use Rattle.packing.specs.Conversions.{Found, failsAt, nowhere, firstNot, holds, leading}
+use Rattle.packing.specs.Conversions.{Found, failsAt, nowhere, firstNot, holds}
+use Rattle.packing.specs.Passes.{leading}
 
 -- ---- one place at a time
 pub first-none : (f : ℕ → Bool) (p n : ℕ) → n ≡ 0 → firstNot f p n ≡ nowhere

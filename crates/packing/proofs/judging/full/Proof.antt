@@ -2,7 +2,7 @@
 use mathlib.Core.Path.{sym, _∙_}
 use borrow.Author.Tests.{not-true, not-false}
 use borrow.Author.Needs.{needs}
-use Rattle.packing.proofs.Judges.{full-zero, full-first, full-second, full-third}
+use Rattle.packing.proofs.Fulls.{full-zero, full-first, full-second, full-third}
 use Rattle.packing.proofs.judging.full.Statement.{statement}
 use Rattle.packing.proofs.judging.full.Tie as tie
 

@@ -5,8 +5,8 @@ use native.Mathlib.Omega.{arith}
 use borrow.Author.Needs.{needs}
 use borrow.Author.Tests.{not-true, not-false}
 use lib.ListN.{length}
-use Rattle.packing.specs.Conversions.{leading}
-use Rattle.packing.proofs.Judges.{fullAt, full-start, full-over, full-stops, full-goes}
+use Rattle.packing.specs.Passes.{leading}
+use Rattle.packing.proofs.Fulls.{fullAt, full-start, full-over, full-stops, full-goes}
 use Rattle.packing.proofs.judging.full_groups.Statement.{statement}
 use Rattle.packing.proofs.judging.full_groups.Tie as tie
 

@@ -5,9 +5,11 @@ use Prim.Native.Nat.{ℕ, _+_, _*_, _/_}
 use native.Mathlib.Omega.{arith}
 use borrow.Author.Needs.{needs}
 use lib.Dec.{ltb}
-use Rattle.packing.specs.Conversions.{judgedPast, lastHasOne}
+use Rattle.packing.specs.Conversions.{lastHasOne}
+use Rattle.packing.specs.Passes.{judgedPast}
 use Rattle.packing.proofs.Searches.{lead-most}
-use Rattle.packing.proofs.Judges.{fullAt, count-most, judged-past, rest-judged}
+use Rattle.packing.proofs.Judges.{count-most}
+use Rattle.packing.proofs.Fulls.{fullAt, judged-past, rest-judged}
 use Rattle.packing.proofs.judging.judge.Statement.{statement}
 use Rattle.packing.proofs.judging.judge.Tie as tie
 

@@ -6,7 +6,7 @@ use Prim.Native.Nat.{_/_, _-_, _≤_}
 use lib.ListN.{length}
 use native.Mathlib.Omega.{arith}
 use borrow.Author.Needs.{needs}
-use Rattle.packing.specs.Conversions.{judgedPast}
+use Rattle.packing.specs.Passes.{judgedPast}
 use Rattle.packing.proofs.Judges.{judged-over, judged-stops, judged-goes}
 use Rattle.packing.proofs.judging.judge_groups.Statement.{statement}
 use Rattle.packing.proofs.judging.judge_groups.Tie as tie

@@ -1,6 +1,6 @@
 -- Each return is the case of `restSound` that the tests before it chose.
 use borrow.Author.Needs.{needs}
-use Rattle.packing.proofs.Judges.{rest-early, rest-none, rest-one, rest-two}
+use Rattle.packing.proofs.Fulls.{rest-early, rest-none, rest-one, rest-two}
 use Rattle.packing.proofs.judging.rest_sound.Statement.{statement}
 use Rattle.packing.proofs.judging.rest_sound.Tie as tie
 
