@@ -4,7 +4,7 @@ use mathlib.Core.Path.{_≡_, refl, ap, sym, _∙_}
 use mathlib.Core.Bool.{Bool, true, false, _&&_, false≢true}
 use mathlib.Core.List.{List, [], _∷_, _++_, append-assoc, append-nil}
 use Prim.Native.Nat.{ℕ, _≤_}
-use Rattle.lemmas.proofs.Booleans.{and-left, and-right}
+use Rattle.lemmas.proofs.Booleans.{and-left, and-right, and-true}
 use Rattle.slots.specs.Slots.{slotOf}
 use Rattle.slots.proofs.Slotted.{span-of, slot-taken, active-span}
 use Rattle.feeds.specs.Feeds.{LentFeed, feedReport}
@@ -14,10 +14,6 @@ use Rattle.board.specs.Feeding.{Line, FeedReply, handed, feedOn, accepte
 use Rattle.board.specs.declared.record.Board.{Board}
 use Rattle.board.proofs.Forms.{good-of}
 use Rattle.board.proofs.Feeds.{said, feed-by, feed-board, accepted-well}
-
-and-true : (a : Bool) → (a && true) ≡ a
-and-true true = refl
-and-true false = refl
 
 -- one test after another, and one of the whole
 chained : (a b c t u : Bool) → (a ≡ true → b ≡ c) → (c ≡ true → a ≡ true) → (a ≡ true → c ≡ true → t ≡ u) → (a && (b && t)) ≡ (c && u)
