@@ -82,7 +82,8 @@ module _ (z : Sizes) (a p : Slot) (l : List ℕ) (f : Feed) (piece : List ℕ) w
         feed-done h =
             let ta = holdsAny a (f .next) (entriesIn J) in
             let tp = holdsAny p (f .next) (entriesIn J) in
-            let w : Fits z a p l f (entriesIn J) = (ok, long, fits, free-of a (f .next) (entriesIn J) (or-none-left ta tp h), free-of p (f .next) (entriesIn J) (or-none-right ta tp h)) in
+            let w : Fits z a p l f (entriesIn J) =
+            (ok, long, fits, free-of a (f .next) (entriesIn J) (or-none-left ta tp h), free-of p (f .next) (entriesIn J) (or-none-right ta tp h)) in
             sym (ap (λ r. r .report) (fits-done z a p l f piece w))
 
       -- the code's tests

@@ -1,3 +1,5 @@
+-- A refusal leaves all as it was (`ends-refused`); else the completed entries fit (`ends-fit`), are put, and the feed record is the
+-- one after them (`ends-done`).
 use borrow.Author.Needs.{needs}
 use mathlib.Core.Path.{_≡_, sym, _∙_}
 use Prim.Native.Nat.{_≤_}

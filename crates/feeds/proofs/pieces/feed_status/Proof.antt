@@ -1,3 +1,5 @@
+-- Each refusal is the ground of its test (`feed-malformed`, `feed-wrong-size`), then those of the entries that are completed
+-- (`feed-placed`), whose number needs no sum past 64 bits.
 use borrow.Author.Needs.{needs}
 use mathlib.Core.Path.{_≡_, refl, ap₂, sym, _∙_}
 use mathlib.Core.Bool.{true, _||_}

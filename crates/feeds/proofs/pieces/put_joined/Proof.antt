@@ -1,3 +1,4 @@
+-- Bytes put behind bytes that were put are both put at once (`put-join`).
 use borrow.Author.Needs.{needs}
 use mathlib.Core.Path.{ap, sym, _∙_}
 use Prim.Native.Nat.{ℕ, _+_}
