@@ -3,18 +3,19 @@
  *
  * Every function takes every number, every record and memories of every length, and has one outcome for each of them; no
  * call stops, allocates or keeps a pointer. The library has no state of its own, so separate boards may run on separate
- * threads at once. From outside it needs memmove and memset alone. What only the caller can see to:
- *  - board, place, steps and written are not null, are aligned, and point to one value each;
+ * threads at once. From outside it needs memcpy, memmove and memset alone. What only the caller can see to:
+ *  - board, feed, place, steps and written are not null, are aligned, and point to one value each;
  *  - a length is what its pointer really has behind it; with a length of 0 any pointer will do, NULL too;
  *  - nothing that one pointer of a call lends for writing overlaps what another pointer of that call lends, and no other
  *    thread touches any of it during the call.
  *
  * What the caller gets, proved as one theorem about any sequence of calls (statements/specs/Images.antt, Demand3InC): from
- * pramolyt_make answered 0 on, with each call handed record and memories as the last call left them, no call answers 1 and
- * no run answers 9, and after each call both pictures are those of the lists run in the order in which they were accepted,
- * as far as the steps reported, each list as it read when it was posted. What voids it: a change of the record, of list
- * memory but by pramolyt_store, or of a picture but by pramolyt_window_write; or a memory of another size, for that call
- * alone, which answers 2 and changes nothing.
+ * pramolyt_make answered 0 on, with each call handed record and memories as the last call left them, no call answers 1 but
+ * a feed that is given a bad feed record, no run answers 9, and after each call both pictures are those of the lists run in
+ * the order in which they were accepted, as far as the steps reported, each list as it read when it was posted. A feed may
+ * be given any feed record. What voids it: a change of the board record, of list memory but by pramolyt_store or
+ * pramolyt_feed, or of a picture but by pramolyt_window_write; or a memory of another size, for that call alone, which
+ * answers 2 and changes nothing.
  */
 #ifndef PRAMOLYT_H
 #define PRAMOLYT_H
@@ -23,9 +24,9 @@
 #include <stdint.h>
 
 #define PRAMOLYT_VERSION_MAJOR 0
-#define PRAMOLYT_VERSION_MINOR 5
+#define PRAMOLYT_VERSION_MINOR 6
 #define PRAMOLYT_VERSION_PATCH 0
-#define PRAMOLYT_VERSION "0.5.0"
+#define PRAMOLYT_VERSION "0.6.0"
 
 /* The edition of the record and of the calls' arguments. The archive's symbols carry it, so that a program compiled with a
  * header of another edition does not link. In C and C++ one writes the names without it. */
@@ -33,6 +34,8 @@
 #define pramolyt_make pramolyt_make_r1
 #define pramolyt_post pramolyt_post_r1
 #define pramolyt_store pramolyt_store_r1
+#define pramolyt_feed_start_fields pramolyt_feed_start_fields_r1
+#define pramolyt_feed_fields pramolyt_feed_fields_r1
 #define pramolyt_window_write pramolyt_window_write_r1
 #define pramolyt_run pramolyt_run_r1
 #define pramolyt_pack pramolyt_pack_r1
@@ -42,19 +45,21 @@
 extern "C" {
 #endif
 
-/* What a call answers. In every refusal but PRAMOLYT_ILLEGAL_FETCH, and but for a refused make, record and memories stay
+/* What a call answers. In every refusal but PRAMOLYT_ILLEGAL_FETCH, and but for a refused make, records and memories stay
  * as they were. Where several grounds hold, the lowest number is answered. */
 enum {
     PRAMOLYT_DONE = 0,
     PRAMOLYT_MALFORMED = 1,      /* the record fails the test of a board record: it was never made, or was changed between
-                                    calls. The test looks at the record alone; not every change is seen */
+                                    calls. The test looks at the record alone; not every change is seen. Of a feed also: a
+                                    bad feed record, which one that starts past the end of list memory is too */
     PRAMOLYT_WRONG_SIZE = 2,     /* a size or a length is wrong, or a buffer number; each call says which */
     PRAMOLYT_NO_ENTRIES = 3,     /* a list of no entries */
-    PRAMOLYT_PAST_THE_END = 4,   /* a span passes the end of its memory; of pack and unpack: more than 4096 entries */
+    PRAMOLYT_PAST_THE_END = 4,   /* a span passes the end of its memory; of a feed: the entries that the piece completes do;
+                                    of pack and unpack: more than 4096 entries */
     PRAMOLYT_SLOTS_FULL = 5,     /* both slots are taken */
     PRAMOLYT_ILLEGAL_ENTRY = 6,  /* the list has an illegal entry; *place is the first one */
     PRAMOLYT_BUSY = 7,           /* a window write while a slot is taken */
-    PRAMOLYT_ENTRY_HELD = 8,     /* a store touches an entry of a list in a slot */
+    PRAMOLYT_ENTRY_HELD = 8,     /* a store touches, or a feed's piece completes, an entry of a list in a slot */
     PRAMOLYT_ILLEGAL_FETCH = 9,  /* a run came to an illegal entry; the *steps before it stand */
     PRAMOLYT_MALFORMED_FILE = 10 /* a file is not of edition 2: a zero bit that is set, a 31 where an entry belongs, or data
                                     in a 31 */
@@ -99,6 +104,14 @@ typedef struct pramolyt_board {
     uint32_t last; /* the last point: x in the high half, y in the low half, each two's complement */
 } pramolyt_board;
 
+/* The feed record, for a list whose bytes come in pieces, as over a serial line. The caller keeps it between pieces. It is
+ * bad where next is above the board's entries, count above 4, or an unused byte of held not 0. */
+typedef struct pramolyt_feed_record {
+    uint64_t next;   /* the list entry that the next bytes belong to */
+    uint8_t held[4]; /* the first bytes of that entry, as far as they have come; the others are 0 */
+    uint32_t count;  /* how many of them have come, 0 to 4 */
+} pramolyt_feed_record;
+
 /* A fresh board into *board, whatever stood there: 0 or 2. It is 2 where width or height is not 1 to 2048, or entries not
  * 1 to 4096; *board is then the fresh 1 by 1 board with 1 entry. The caller lends each call its memories: list memory of
  * 5 * entries bytes, and two buffers, display and virtual, of width * height bytes each. */
@@ -113,6 +126,34 @@ uint32_t pramolyt_post(pramolyt_board *board, uint64_t *place, const uint8_t *li
  * bytes_len no multiple of 5. */
 uint32_t pramolyt_store(pramolyt_board *board, uint8_t *list, size_t list_len, size_t first, const uint8_t *bytes,
                         size_t bytes_len);
+
+/* pramolyt_feed_start and pramolyt_feed, below, for callers in other languages: with the fields of the feed record one by
+ * one. `held` has 4 bytes. */
+void pramolyt_feed_start_fields(uint64_t *next, uint8_t *held, uint32_t *count, uint64_t entry);
+uint32_t pramolyt_feed_fields(pramolyt_board *board, uint64_t *next, uint8_t *held, uint32_t *count, uint8_t *list,
+                              size_t list_len, const uint8_t *piece, size_t piece_len);
+
+/* A feed record into *feed, whatever stood there, that starts at list entry `entry` and holds no bytes. Any number will do;
+ * with one above the board's entries every feed answers 1. */
+static inline void pramolyt_feed_start(pramolyt_feed_record *feed, uint64_t entry)
+{
+    pramolyt_feed_start_fields(&feed->next, feed->held, &feed->count, entry);
+}
+
+/* Takes the next piece of a list, of any length, 0 too: 0, 1, 2, 4 or 8. Each entry of 5 bytes that the held bytes and the
+ * piece complete goes into list memory, from entry feed->next on, and the bytes left over are held. So it does not matter
+ * where the bytes of a list are cut: with no other call between the pieces, all are accepted exactly where their bytes in
+ * one piece are, and then leave the same memory and the same feed record. Entries are not judged; pramolyt_post does that.
+ *
+ * It is 1 where the board record is malformed or the feed record bad; 2 where list_len is not 5 * entries; 4 and then 8
+ * where an entry that the piece completes is past the end of list memory, or is of a list in a slot. Bytes that complete no
+ * entry are held anywhere, at the end of list memory and on an entry in a slot too. In a refusal nothing of the piece is
+ * taken; with 8, run until the list has left its slot and feed the same piece again. */
+static inline uint32_t pramolyt_feed(pramolyt_board *board, pramolyt_feed_record *feed, uint8_t *list, size_t list_len,
+                                     const uint8_t *piece, size_t piece_len)
+{
+    return pramolyt_feed_fields(board, &feed->next, feed->held, &feed->count, list, list_len, piece, piece_len);
+}
 
 /* Writes bytes from `offset` on into buffer `number`, 0 for display and 1 for virtual, which is the one that is lent: 0,
  * 1, 2, 4 or 7. It is 2 where number is above 1, or buffer_len is not width * height. */
@@ -144,7 +185,7 @@ uint32_t pramolyt_pack(uint64_t *written, uint64_t *place, const uint8_t *input,
  * group. It is 2 where input_len is no multiple of 14, or output_len is less than PRAMOLYT_LIST_SIZE of the entries; 3 where
  * input_len is 0; 4 where there are more than 4096 entries. A 31 is no illegal entry, and *place counts it, three to a
  * group. A file that is accepted is the one that pramolyt_pack makes of its list. The output is not to be a board's list
- * memory, which only pramolyt_store may change. */
+ * memory, which only pramolyt_store and pramolyt_feed may change. */
 uint32_t pramolyt_unpack(uint64_t *written, uint64_t *place, const uint8_t *input, size_t input_len, uint8_t *output,
                          size_t output_len);
 
@@ -165,7 +206,8 @@ static inline const char *pramolyt_answer_text(uint32_t answer)
     case PRAMOLYT_DONE:
         return "done";
     case PRAMOLYT_MALFORMED:
-        return "the board record is damaged or was never made; make the board anew";
+        return "the board record or the feed record is damaged or was never made, or the feed starts past the end of list "
+               "memory; make it anew";
     case PRAMOLYT_WRONG_SIZE:
         return "a size is wrong: the board's, a memory's, the buffer number, an output's, or bytes that are no whole entries";
     case PRAMOLYT_NO_ENTRIES:
@@ -230,6 +272,10 @@ PRAMOLYT_WORD(pattern_place, 25)
 PRAMOLYT_WORD(pattern_repeat, 26)
 PRAMOLYT_WORD(last, 27)
 #undef PRAMOLYT_WORD
+PRAMOLYT_ASSERT(sizeof(pramolyt_feed_record) == 16, "pramolyt_feed_record has 16 bytes")
+PRAMOLYT_ASSERT(offsetof(pramolyt_feed_record, next) == 0, "next comes first")
+PRAMOLYT_ASSERT(offsetof(pramolyt_feed_record, held) == 8, "held follows next")
+PRAMOLYT_ASSERT(offsetof(pramolyt_feed_record, count) == 12, "count follows held")
 #undef PRAMOLYT_ASSERT
 
 #endif

@@ -5,11 +5,14 @@ int main(void)
 {
     static const uint8_t noop[5], pixel[1];
     pramolyt_board board;
+    pramolyt_feed_record feed;
     uint8_t list[5] = {0}, display[1] = {0}, virt[1] = {0}, packed[14];
     uint64_t place, steps, written;
     uint32_t answers = pramolyt_make(&board, 1, 1, 1);
     answers |= pramolyt_window_write(&board, 0, 0, pixel, 1, display, 1);
     answers |= pramolyt_store(&board, list, 5, 0, noop, 5);
+    pramolyt_feed_start(&feed, 0);
+    answers |= pramolyt_feed(&board, &feed, list, 5, noop, 5);
     answers |= pramolyt_post(&board, &place, list, 5, 0, 1);
     answers |= pramolyt_run(&board, &steps, 1, list, 5, display, 1, virt, 1);
     answers |= pramolyt_pack(&written, &place, list, 5, packed, 14);

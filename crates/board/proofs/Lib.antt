@@ -4,4 +4,6 @@ pub mod Goes
 pub mod Counts
 pub mod Refused
 pub mod Replies
+pub mod Feeds
+pub mod Cuts
 pub mod Stopped

@@ -4,3 +4,4 @@ pub mod Runs
 pub mod Left
 pub mod Stopped
 pub mod Calls
+pub mod Feeding

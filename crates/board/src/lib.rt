@@ -1,9 +1,11 @@
 // The board record and the host's calls (document 01, What the engine has, What the host hears, and Steps).
 mod answer;
 mod calls;
+mod feeding;
 mod record;
 mod runs;
 mod steps;
 
 pub use answer::Answer;
+pub use answer::FeedAnswer;
 pub use record::Board;

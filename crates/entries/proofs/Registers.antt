@@ -1,7 +1,7 @@
 -- Which words a register may hold, register by register.
 -- Assumes nothing.
 use mathlib.Core.Path.{_≡_}
-use mathlib.Core.Bool.{_&&_, _||_, or-false}
+use mathlib.Core.Bool.{Bool, _&&_, _||_, or-false}
 use Prim.Native.Nat.{ℕ, _/_, _%_, _^_, _≤_, _<_}
 use native.Mathlib.Omega.{arith}
 use borrow.Author.Tests.{eqb-true, eqb-false, eq-eqb, ne-eqb, leb-true, leb-false, le-leb, lt-leb}
@@ -74,3 +74,7 @@ point-held register word low pctrl size direction =
       ne-eqb register 11 direction,
     )
     (simp or-false (any-held register low pctrl size direction))
+
+-- an entry with no spare bit set
+pub entry-held : (spare : ℕ) (held : Bool) → spare ≡ 0 → held ≡ (eqb spare 0 && held)
+entry-held spare held h = rw (eq-eqb spare 0 h)

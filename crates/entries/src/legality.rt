@@ -22,10 +22,13 @@ pub fn legal_pctrl(word: u32) -> bool
     (word < 65536) & (word / 8192 % 8 <= word / 32 % 8) & (word / 256 % 32 < length)
 }
 
-// Whether a register may hold a word.
-pub fn legal_data(register: u32, word: u32) -> bool
-    ensures { λ r. ⌜ r ≡ dataLegal register word ⌝ }
+// Whether an entry is legal. It comes by its fields, which stay in machine registers.
+pub fn legal_entry(register: u32, spare: u32, word: u32) -> bool
+    ensures { λ r. ⌜ r ≡ entryLegal (record { register = register; spare = spare; word = word }) ⌝ }
 {
+    if spare != 0 {
+        return false;
+    }
     if register == 0 {
         return legal_cmd(word);
     }
@@ -44,12 +47,11 @@ pub fn legal_data(register: u32, word: u32) -> bool
     register <= 12
 }
 
-// Whether an entry is legal. It comes by its fields, which stay in machine registers.
-pub fn legal_entry(register: u32, spare: u32, word: u32) -> bool
-    ensures { λ r. ⌜ r ≡ entryLegal (record { register = register; spare = spare; word = word }) ⌝ }
+// Whether a register may hold a word.
+pub fn legal_data(register: u32, word: u32) -> bool
+    ensures { λ r. ⌜ r ≡ dataLegal register word ⌝ }
 {
-    let held = legal_data(register, word);
-    (spare == 0) & held
+    legal_entry(register, 0, word)
 }
 
 // Whether list memory has a legal entry at a place.

@@ -1,11 +1,11 @@
--- A memory after bytes were put into it: its length, and the bytes before and after them.
+-- A memory after bytes were put into it: its length, the bytes before and after them, and bytes put in two parts.
 -- Assumes nothing.
-use mathlib.Core.Path.{_≡_, ap, _∙_}
-use mathlib.Core.List.{List, [], _++_, append-nil}
+use mathlib.Core.Path.{_≡_, ap, ap₂, sym, _∙_}
+use mathlib.Core.List.{List, [], _++_, append-assoc, append-nil}
 use Prim.Native.Nat.{ℕ, _+_, _-_, _≤_, _<_}
 use native.Mathlib.Omega.{arith}
 use lib.ListN.{length, getD, take, drop, length-append, length-drop, take-append-drop, List·getD-append}
-use lib.Seq.{getD-append-add, getD-take, getD-drop, length-take-le}
+use lib.Seq.{getD-append-add, getD-take, getD-drop, length-take-le, take-at, drop-at, drop-drop}
 use Rattle.lemmas.specs.Memory.{putInto}
 
 -- before and after the bytes that were put
@@ -37,6 +37,20 @@ module _ (l : List ℕ) (at : ℕ) (bytes : List ℕ) (h : at + length bytes ≤
   put-length =
       length-append (take at l ++ bytes) (drop (at + length bytes) l)
       ∙ omega (arith, front-long, length-drop (at + length bytes) l)
+
+  -- more bytes put behind them
+  pub put-join : (more : List ℕ) → putInto (putInto l at bytes) (at + length bytes) more ≡ putInto l at (bytes ++ more)
+  unfolding putInto
+  put-join more =
+      let n = at + length bytes in
+      let front = take at l ++ bytes in
+      let rest = drop n l in
+      let end : n + length more ≡ at + length (bytes ++ more) = omega (arith, length-append bytes more) in
+      ap₂ _++_ (ap (λ m. m ++ more) (take-at front rest n front-long) ∙ append-assoc (take at l) bytes more)
+      (sym (drop-drop (length more) n (front ++ rest))
+      ∙ ap (drop (length more)) (drop-at front rest n front-long)
+      ∙ drop-drop (length more) n l
+      ∙ ap (λ k. drop k l) end)
 
 -- no bytes put change nothing
 pub put-none : (l : List ℕ) (at : ℕ) → putInto l at [] ≡ l

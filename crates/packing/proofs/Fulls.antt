@@ -8,7 +8,7 @@ use native.Mathlib.Omega.{arith}
 use borrow.Author.Tests.{eqb-true, eqb-false, eq-eqb, ne-eqb, lt-ltb, le-ltb, ltb-false}
 use lib.Dec.{eqb, ltb}
 use lib.ListN.{length}
-use Rattle.lemmas.proofs.Booleans.{by-cases, and-left, and-right, or-by}
+use Rattle.lemmas.proofs.Booleans.{by-cases, and-left, and-right, or-by, and-true}
 use Rattle.entries.specs.Legality.{dataLegal, entryLegal}
 use Rattle.entries.specs.declared.decoding.Entry.{Entry}
 use Rattle.packing.specs.Groups.{groupOf, countOf}
@@ -18,7 +18,7 @@ use Rattle.packing.specs.Conversions.{lastHasOne}
 use Rattle.packing.specs.Passes.{judgedPast, fullGroup, leading, onePresent, twoPresent, restSound}
 use Rattle.packing.specs.declared.groups.Group.{Group}
 use Rattle.packing.proofs.Searches.{lead-over, lead-stops, lead-goes}
-use Rattle.packing.proofs.Judges.{and-true, closing-second, closing-third, count-least, count-most, judged-goes, judged-over, judged-start, none-fails}
+use Rattle.packing.proofs.Judges.{closing-second, closing-third, count-least, count-most, judged-goes, judged-over, judged-start, none-fails}
 
 -- ---- legal entries: their number is no 31, their spare bits are zero
 no-31 : (word : ℕ) → dataLegal 31 word ≡ false

@@ -9,7 +9,7 @@ use native.Mathlib.Omega.{arith}
 use borrow.Author.Tests.{eqb-true, eqb-false, eq-eqb, ne-eqb}
 use lib.Dec.{eqb}
 use lib.ListN.{length}
-use Rattle.lemmas.proofs.Booleans.{by-cases}
+use Rattle.lemmas.proofs.Booleans.{by-cases, and-true}
 use Rattle.entries.specs.Layout.{entryOf}
 use Rattle.entries.specs.Legality.{entryLegal, decodedLegal, legalAt}
 use Rattle.entries.proofs.Decodes.{decoded-whole}
@@ -209,10 +209,6 @@ module _ (l : List ℕ) (g m k : ℕ) (x : Group) (same : x ≡ groupOf l g) (is
 and-assoc : (a b c : Bool) → (a && (b && c)) ≡ ((a && b) && c)
 and-assoc true b c = refl
 and-assoc false b c = refl
-
-pub and-true : (a : Bool) → (a && true) ≡ a
-and-true true = refl
-and-true false = refl
 
 pub holds-next : (f : ℕ → Bool) (g m : ℕ) → holds f g (m + 1) ≡ (f g && holds f (g + 1) m)
 unfolding holds

@@ -9,10 +9,13 @@ use Rattle.answers.specs.Reports.{reportOf}
 use Rattle.board.specs.Calls.{reply, makeCall, postCall, written, storeCall, writeCall}
 use Rattle.board.specs.Steps.{machine}
 use Rattle.board.specs.Runs.{outcome, runCall}
+use Rattle.board.specs.Feeding.{feedReply, feedCall}
+use Rattle.board.specs.declared.answer.FeedAnswer.{FeedAnswer}
+use Rattle.feeds.specs.declared.Feed.{Feed}
 use Rattle.board.specs.declared.answer.Answer.{Answer}
 use Rattle.board.specs.declared.record.Board.{Board}
 use Rattle.pramolyt.specs.Image.{wordsOf, boardOf, flagsOk}
-use Rattle.pramolyt.specs.Exports.{ofImage, made, madeBy, makeImage, posted, postedBy, postImage, changed, changedBy, storeImage, writeImage, ran, ranBy, runImage}
+use Rattle.pramolyt.specs.Exports.{ofImage, made, madeBy, makeImage, posted, postedBy, postImage, changed, changedBy, storeImage, writeImage, ran, ranBy, runImage, received, receivedBy, feedImage}
 
 -- a flag is neither 0 nor 1
 module _ (w : List ℕ) (t : Bool) (judged : t ≡ flagsOk w) (bad : not t ≡ true) where
@@ -37,6 +40,23 @@ module _ (w : List ℕ) (t : Bool) (judged : t ≡ flagsOk w) (bad : not t ≡ t
   run-refused budget list display virt =
       refused (ranBy (runCall budget list (machine (boardOf w) display virt))) (ran 1 w 0 display virt)
 
+  pub feed-refused : (f : Feed) (list piece : List ℕ) → received 1 w f list ≡ feedImage w f list piece
+  unfolding feedImage
+  feed-refused f list piece = refused (receivedBy (feedCall list f piece (boardOf w))) (received 1 w f list)
+
+-- a call on the record of an image
+module _ (w : List ℕ) (t : Bool) (judged : t ≡ flagsOk w) (good : not t ≡ false) (b : Board) (decoded : b ≡ boardOf w) where
+  on-record : {A R : Type 0} (handed : R → A) (call : Board → R) (r : R) → r ≡ call b → (stays : A)
+      → handed r ≡ ofImage w (handed (call (boardOf w))) stays
+  on-record handed call r answered stays = rw (← judged, not-false t good, answered, decoded)
+
+  pub feed-done : (a : FeedAnswer) (words : List ℕ) → words ≡ wordsOf (a .board) → (number : ℕ) → number ≡ reportOf (a .status) .number
+      → (f : Feed) (list piece memory : List ℕ) → feedReply a memory ≡ feedCall list f piece b
+      → received number words (a .feed) memory ≡ feedImage w f list piece
+  unfolding feedImage
+  feed-done a words encoded number numbered f list piece memory answered =
+      rw (encoded, numbered) (on-record receivedBy (feedCall list f piece) (feedReply a memory) answered (received 1 w f list))
+
 -- an answer handed back
 module _ (a : Answer) (words : List ℕ) (encoded : words ≡ wordsOf (a .board)) (number : ℕ) (numbered : number ≡ reportOf (a .status) .number) where
   pub make-done : (width height entries : ℕ) → reply a ≡ makeCall width height entries → made number words ≡ makeImage width height entries
@@ -45,9 +65,9 @@ module _ (a : Answer) (words : List ℕ) (encoded : words ≡ wordsOf (a .board)
 
   -- the call on the record of an image
   module _ (w : List ℕ) (t : Bool) (judged : t ≡ flagsOk w) (good : not t ≡ false) (b : Board) (decoded : b ≡ boardOf w) where
-    done : {A R : Type 0} (handed : R → A) (call : Board → R) (r : R) → r ≡ call b → (stays : A)
+    abbrev done : {A R : Type 0} (handed : R → A) (call : Board → R) (r : R) → r ≡ call b → (stays : A)
         → handed r ≡ ofImage w (handed (call (boardOf w))) stays
-    done handed call r answered stays = rw (← judged, not-false t good, answered, decoded)
+    done = on-record w t judged good b decoded
 
     pub post-done : (list : List ℕ) (start count : ℕ) → reply a ≡ postCall list start count b → (place : ℕ)
         → place ≡ reportOf (a .status) .place → posted number words place ≡ postImage w list start count

@@ -4,13 +4,17 @@ use mathlib.Core.Path.{_≡_, refl, ap, _∙_}
 use mathlib.Core.Bool.{Bool, true, false, cond}
 use mathlib.Core.List.{List}
 use Prim.Native.Nat.{ℕ}
+use borrow.Author.Tests.{ne-eqb}
 use lib.ListN.{length}
 use Rattle.board.specs.Calls.{Written, storeCall, writeCall}
 use Rattle.board.specs.Steps.{machine}
 use Rattle.board.specs.declared.record.Board.{Board}
+use Rattle.feeds.specs.declared.Feed.{Feed}
+use Rattle.board.specs.Feeding.{line, feedCall}
+use Rattle.board.proofs.Feeds.{refused-feed}
 use Rattle.board.proofs.Refused.{post-given, Stays, store-stays, write-stays, run-halts}
 use Rattle.pramolyt.specs.Image.{words, wordsOf, boardOf, flagsOk}
-use Rattle.pramolyt.specs.Exports.{ofImage, Posted, postImage, Changed, changed, changedBy, storeImage, writeImage, Ran, runImage, RefusedPost, RefusedStore, RefusedWrite, RefusedRun}
+use Rattle.pramolyt.specs.Exports.{ofImage, Posted, postImage, Changed, changed, changedBy, storeImage, writeImage, Ran, runImage, Received, feedImage, RefusedPost, RefusedStore, RefusedWrite, RefusedRun, RefusedFeed}
 use Rattle.pramolyt.proofs.RoundTrips.{encodes-decoded}
 
 judged : {A : Type 0} (P : A → Type 0) (w : List ℕ) {done stays : A} → (flagsOk w ≡ true → P done) → P stays → P (ofImage w done stays)
@@ -54,3 +58,12 @@ refused-run w budget list display virt long =
     let s = run-halts budget list m n k in
     (same w long ok (ap (λ m. m .board) s), ap (λ m. m .display) s, ap (λ m. m .virt) s))
     (λ n k. (refl, refl, refl))
+
+pub refused-feed-image : RefusedFeed
+unfolding feedImage
+refused-feed-image w f list piece long =
+    judged (λ (r : Received). (r .number ≡ 0 → ⊥) → (r .words ≡ w) × (r .feed ≡ f) × (r .memory ≡ list)) w
+    (λ ok n.
+    let s = refused-feed (line (boardOf w) f list) piece (ne-eqb (feedCall list f piece (boardOf w) .report .number) 0 n) in
+    (same w long ok (ap (λ s. s .board) s), ap (λ s. s .feed) s, ap (λ s. s .memory) s))
+    (λ n. (refl, refl, refl))

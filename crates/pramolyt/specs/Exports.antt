@@ -8,6 +8,8 @@ use lib.ListN.{length}
 use Rattle.board.specs.Calls.{Reply, makeCall, postCall, Written, storeCall, writeCall}
 use Rattle.board.specs.Steps.{machine}
 use Rattle.board.specs.Runs.{Outcome, runCall}
+use Rattle.board.specs.Feeding.{FeedReply, feedCall}
+use Rattle.feeds.specs.declared.Feed.{Feed}
 use Rattle.packing.specs.Conversions.{Converted, packOf, unpackOf}
 use Rattle.pramolyt.specs.Image.{words, wordsOf, boardOf, flagsOk}
 
@@ -87,6 +89,26 @@ unfoldable pub runImage : List ℕ → ℕ → List ℕ → List ℕ → List �
 runImage w budget list display virt =
     ofImage w (ranBy (runCall budget list (machine (boardOf w) display virt))) (ran 1 w 0 display virt)
 
+-- ---- feed (02, R-5): both records and list memory after it. A feed record is lent by its three fields.
+abbrev pub feedOf : ℕ → List ℕ → ℕ → Feed
+feedOf next held count = record { next = next; held = held; count = count }
+
+pub record Received : Type 0 where
+  pub number : ℕ
+  pub words : List ℕ
+  pub feed : Feed
+  pub memory : List ℕ
+
+abbrev pub received : ℕ → List ℕ → Feed → List ℕ → Received
+received number words feed memory = record { number = number; words = words; feed = feed; memory = memory }
+
+abbrev pub receivedBy : FeedReply → Received
+receivedBy r = received (r .report .number) (wordsOf (r .after .board)) (r .after .feed) (r .after .memory)
+
+-- "1 for a malformed board record or a bad feed record ..; 2; 4 and 8"
+unfoldable pub feedImage : List ℕ → Feed → List ℕ → List ℕ → Received
+feedImage w f list piece = ofImage w (receivedBy (feedCall list f piece (boardOf w))) (received 1 w f list)
+
 -- ---- pack and unpack (02, R-4): "returning the bytes written"
 pub record Filed : Type 0 where
   pub number : ℕ
@@ -127,3 +149,9 @@ abbrev pub RefusedRun : Type 0
 RefusedRun =
     (w : List ℕ) (budget : ℕ) (list display virt : List ℕ) → length w ≡ words → let r = runImage w budget list display virt in
     (r .number ≡ 0 → ⊥) → (r .number ≡ 9 → ⊥) → (r .words ≡ w) × (r .display ≡ display) × (r .virt ≡ virt)
+
+-- "Refusals, which hand both records back as given".
+abbrev pub RefusedFeed : Type 0
+RefusedFeed =
+    (w : List ℕ) (f : Feed) (list piece : List ℕ) → length w ≡ words → let r = feedImage w f list piece in
+    (r .number ≡ 0 → ⊥) → (r .words ≡ w) × (r .feed ≡ f) × (r .memory ≡ list)

@@ -2,11 +2,13 @@
 // the caller keeps; each call answers document 01's number (What the engine has, and What the host hears). Each name ends in
 // the edition of the record and of the arguments: a change of either changes the names, here and in the header.
 ghost use mathlib.Core.Path.{_≡_};
-ghost use Rattle.pramolyt.specs.Exports.{made, makeImage, posted, postImage, changed, storeImage, writeImage, ran, runImage, filed, packFile, unpackFile};
+ghost use Rattle.pramolyt.specs.Exports.{made, makeImage, posted, postImage, changed, storeImage, writeImage, ran, runImage, feedOf, received, feedImage, filed, packFile, unpackFile};
+ghost use Rattle.feeds.specs.Feeds.{startAt};
 
 mod image;
 
 use board::Board;
+use feeds::Feed;
 use image::WORDS;
 use image::decode;
 use image::encode;
@@ -114,6 +116,54 @@ pub extern "C" fn pramolyt_run_r1(
     let status = ran.status;
     *board = encode(ran.board);
     *steps = status.steps();
+    status.number()
+}
+
+#[no_mangle]
+pub extern "C" fn pramolyt_feed_start_fields_r1(
+    next: &mut u64,
+    held: &mut [u8; 4],
+    count: &mut u32,
+    entry: u64,
+)
+    ensures { λ _. ⌜ feedOf (now (next .exit)) (now (held .exit)) (now (count .exit)) ≡ startAt entry ⌝ }
+{
+    let feed = Feed::start(entry);
+    let bytes = feed.held;
+    *next = feed.next;
+    *held = bytes;
+    *count = feed.count;
+}
+
+#[no_mangle]
+pub extern "C" fn pramolyt_feed_fields_r1(
+    board: &mut [u32; WORDS],
+    next: &mut u64,
+    held: &mut [u8; 4],
+    count: &mut u32,
+    list: &mut [u8],
+    piece: &[u8],
+) -> u32
+    ensures { λ r. ⌜ received r (now (board .exit)) (feedOf (now (next .exit)) (now (held .exit)) (now (count .exit))) (now (list .exit)) ≡ feedImage (now (board .entry)) (feedOf (now (next .entry)) (now (held .entry)) (now (count .entry))) (now (list .entry)) (now (piece .entry)) ⌝ }
+{
+    let w = *board;
+    if !flags_ok(w) {
+        return 1;
+    }
+    let b = decode(w);
+    let feed = Feed {
+        next: *next,
+        held: *held,
+        count: *count,
+    };
+    let received = b.feed(feed, list, piece);
+    let status = received.status;
+    let after = received.feed;
+    let bytes = after.held;
+    *board = encode(received.board);
+    *next = after.next;
+    *held = bytes;
+    *count = after.count;
     status.number()
 }
 

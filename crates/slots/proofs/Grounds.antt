@@ -17,7 +17,7 @@ use Rattle.answers.specs.Reports.{Report, report}
 use Rattle.lists.specs.Spans.{spanOf, firstIllegal}
 use Rattle.lists.specs.declared.spans.Illegal.{Illegal}
 use Rattle.lists.specs.declared.spans.Illegal.the-variants.{At, Nowhere}
-use Rattle.slots.specs.Calls.{judgedBy, postReport, holdsAny, Lent, leaves, storeReport, writeReport}
+use Rattle.slots.specs.Calls.{putFitting, judgedBy, postReport, holdsAny, Lent, leaves, storeReport, writeReport}
 use Rattle.slots.specs.Slots.{areaOf}
 use Rattle.slots.specs.declared.record.Sizes.{Sizes}
 use Rattle.slots.specs.declared.record.Slot.{Slot}
@@ -174,6 +174,18 @@ write-number z a p number offset bytes buffer =
     (leb (offset + length bytes) (areaOf z))
     (a .taken || p .taken)
 
+-- the numbers that a store answers
+pub store-answers : (P : ℕ → Type 0) → P 0 → P 2 → P 4 → P 8 → (z : Sizes) (a p : Slot) (l : List ℕ) (first : ℕ) (bytes : List ℕ)
+    → P (storeReport z a p l first bytes .report .number)
+unfolding storeReport
+store-answers P zero two four eight z a p l first bytes =
+    let Q : Lent → Type 0 = λ m. P (m .report .number) in
+    of-either Q (eqb (length l) (5 * z .entries) && eqb (length bytes % 5) 0)
+    (of-either Q (leb (first + length bytes / 5) (z .entries))
+    (of-either Q (holdsAny a first (length bytes / 5) || holdsAny p first (length bytes / 5)) eight zero)
+    four)
+    two
+
 -- ---- bytes into a memory
 pub put-start : (l : List ℕ) (at : ℕ) (bytes : List ℕ) → l ≡ paste l at bytes 0
 put-start l at bytes = paste-zero l at bytes
@@ -186,3 +198,10 @@ put-more l at bytes k m h o e =
 pub put-all : (l : List ℕ) (at : ℕ) (bytes : List ℕ) → paste l at bytes (length bytes) ≡ putInto l at bytes
 unfolding putInto
 put-all l at bytes = ap (λ b. take at l ++ b ++ drop (at + length bytes) l) (take-length bytes)
+
+-- where they fit, and where they do not
+pub put-fits : (l : List ℕ) (at : ℕ) (bytes : List ℕ) → at + length bytes ≤ length l → putInto l at bytes ≡ putFitting l at bytes
+put-fits l at bytes h = rw (le-leb (at + length bytes) (length l) h)
+
+pub put-misses : (l : List ℕ) (at : ℕ) (bytes : List ℕ) → length l < at + length bytes → l ≡ putFitting l at bytes
+put-misses l at bytes h = rw (lt-leb (at + length bytes) (length l) h)

@@ -15,6 +15,10 @@ use Rattle.slots.specs.Slots.{areaOf}
 use Rattle.slots.specs.declared.record.Sizes.{Sizes}
 use Rattle.slots.specs.declared.record.Slot.{Slot}
 
+-- Bytes put into a memory where they fit.
+abbrev pub putFitting : List ℕ → ℕ → List ℕ → List ℕ
+putFitting l at bytes = cond (leb (at + length bytes) (length l)) (putInto l at bytes) l
+
 -- "Post: 1 to 6." The whole list is checked when it is posted.
 abbrev pub judgedBy : Illegal → Report
 judgedBy (At place) = report 6 place 0

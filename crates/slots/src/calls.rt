@@ -4,7 +4,7 @@ ghost use Prim.Native.Nat.{_+_, _≤_};
 ghost use lib.ListN.{length};
 ghost use Rattle.lemmas.specs.Memory.{putInto};
 ghost use Rattle.answers.specs.Reports.{reportOf};
-ghost use Rattle.slots.specs.Calls.{postReport, holdsAny, lent, storeReport, writeReport};
+ghost use Rattle.slots.specs.Calls.{putFitting, postReport, holdsAny, lent, storeReport, writeReport};
 use crate::record::Sizes;
 use crate::record::Slot;
 use answers::Status;
@@ -24,8 +24,21 @@ fn put(memory: &mut [u8], at: usize, bytes: &[u8])
     }
 }
 
+// The same where they fit, and nothing where they do not.
+pub fn put_fitting(memory: &mut [u8], at: usize, bytes: &[u8])
+    ensures { λ _. ⌜ now (memory .exit) ≡ putFitting (now (memory .entry)) at (now (bytes .entry)) ⌝ }
+{
+    if memory.len() < at {
+        return;
+    }
+    if memory.len() - at < bytes.len() {
+        return;
+    }
+    put(memory, at, bytes);
+}
+
 // Whether n entries from `first` on have one of a slot's list among them.
-fn held(s: Slot, first: usize, n: usize) -> bool
+pub fn held(s: Slot, first: usize, n: usize) -> bool
     ensures { λ r. ⌜ r ≡ holdsAny s first n ⌝ }
 {
     let span = s.span;

@@ -3,7 +3,9 @@
 mod calls;
 mod record;
 
+pub use calls::held;
 pub use calls::post_status;
+pub use calls::put_fitting;
 pub use calls::store_into;
 pub use calls::write_into;
 pub use record::Active;

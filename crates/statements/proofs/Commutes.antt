@@ -13,7 +13,7 @@ use Rattle.commands.specs.Wholes.{stepsOf}
 use Rattle.board.proofs.Forms.{good-of}
 use Rattle.board.proofs.Counts.{lesser}
 use Rattle.board.proofs.Refused.{run-accepted}
-use Rattle.statements.specs.Paper.{Call, post, store, write, run, fed, stepsToEmpty}
+use Rattle.statements.specs.Paper.{Call, post, store, write, run, feed, fed, stepsToEmpty}
 use Rattle.statements.specs.World.{World, Called, called}
 use Rattle.statements.specs.Demand.{Reports}
 use Rattle.statements.proofs.Abstract.{paperOf, Valid, machineOf, onto, Runs, runs, queue-to-come}
@@ -21,6 +21,7 @@ use Rattle.statements.proofs.Kept.{Kept}
 use Rattle.statements.proofs.Empties.{empties}
 use Rattle.statements.proofs.Posting.{post-kept}
 use Rattle.statements.proofs.Storing.{store-kept}
+use Rattle.statements.proofs.Feeding.{feed-kept}
 use Rattle.statements.proofs.Writing.{write-kept}
 
 -- ---- run
@@ -43,7 +44,7 @@ ran-kept w budget o r =
       valid = r .valid;
       sizes-same = r .sizes-same;
       paper-same = r .steps-same;
-      not-malformed = λ h. let z = r .done in omega arith;
+      one-by-feed = λ h. let z = r .done in omega arith;
       no-nine = λ h. let z = r .done in omega arith;
     }
 
@@ -59,6 +60,7 @@ keeps (post start count) w v = post-kept w v start count
 keeps (store first bytes) w v = store-kept w v first bytes
 keeps (write number offset bytes) w v = write-kept w v number offset bytes
 keeps (run budget) w v = run-kept w v budget
+keeps (feed f piece) w v = feed-kept w v f piece
 
 run-reports : (w : World) (budget : ℕ) → Valid w → (o : Outcome) → o ≡ runOf budget (w .list) (machineOf w) → o .report .number ≡ 0
     → o .report .steps ≡ min budget (stepsToEmpty (w .board .sizes .extent) (paperOf w))
@@ -73,4 +75,5 @@ unfolding called
 reports (post start count) w v = tt
 reports (store first bytes) w v = tt
 reports (write number offset bytes) w v = tt
+reports (feed f piece) w v = tt
 reports (run budget) w v = (empties w v, run-reports w budget v (runCall budget (w .list) (machineOf w)) (sym (run-is budget w v)))

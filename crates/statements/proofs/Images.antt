@@ -16,11 +16,13 @@ use Rattle.board.specs.Steps.{machine}
 use Rattle.board.specs.Runs.{runCall}
 use Rattle.board.specs.Calls.{Reply, answered, freshBoard, sizes, makeCall, postCall, Written, storeCall, writeCall}
 use Rattle.board.specs.declared.record.Board.{Board}
+use Rattle.board.specs.Feeding.{FeedReply, feedCall}
+use Rattle.board.proofs.Feeds.{feed-no-more}
 use Rattle.board.proofs.Replies.{post-no-steps, store-no-more, write-no-more, run-no-place}
 use Rattle.pramolyt.specs.Image.{wordsOf, boardOf}
-use Rattle.pramolyt.specs.Exports.{ofImage, makeImage, Posted, posted, postedBy, postImage, Changed, changed, changedBy, storeImage, writeImage, Ran, ran, ranBy, runImage}
+use Rattle.pramolyt.specs.Exports.{ofImage, makeImage, Posted, posted, postedBy, postImage, Changed, changed, changedBy, storeImage, writeImage, Ran, ran, ranBy, runImage, Received, received, receivedBy, feedImage}
 use Rattle.pramolyt.proofs.RoundTrips.{decodes-encoded, encodes-flags}
-use Rattle.statements.specs.Paper.{Call, post, store, write, run, paper}
+use Rattle.statements.specs.Paper.{Call, post, store, write, run, feed, paper}
 use Rattle.statements.specs.World.{World, world, Called, called, answersTo}
 use Rattle.statements.specs.Demand.{Throughout}
 use Rattle.statements.specs.Images.{Caller, caller, Returned, returned, worldIn, returnsTo, Demand3InC}
@@ -57,7 +59,7 @@ module _ (w : World) where
   returns-by number offset bytes false d v c e p q = q
 
   return-same : (c : Call) → returned c (imageOf w) ≡ returnOf (called c w)
-  unfolding returned called postImage storeImage writeImage runImage
+  unfolding returned called postImage storeImage writeImage runImage feedImage
   return-same (post start count) =
       let r = postCall (w .list) start count b in
       let none = sym (post-no-steps (w .list) start count b) in
@@ -87,6 +89,12 @@ module _ (w : World) where
         report = report (o .report .number) (none i) (o .report .steps);
         after = caller (wordsOf (o .after .board)) (w .list) (o .after .display) (o .after .virt);
       })
+  return-same (feed f piece) =
+      let r = feedCall (w .list) f piece b in
+      let alone = sym (feed-no-more (w .list) f piece b) in
+      ap (λ (r : Received). record { report = report (r .number) 0 0; after = caller (r .words) (r .memory) (w .display) (w .virt) })
+      (of-image b (λ b. receivedBy (feedCall (w .list) f piece b)) (received 1 (wordsOf b) f (w .list)))
+      ∙ (λ i. record { report = alone i; after = caller (wordsOf (r .after .board)) (r .after .memory) (w .display) (w .virt) })
 
 returns-same : (calls : List Call) (w : World) → returnsTo calls (imageOf w) ≡ answersTo calls w
 unfolding returnsTo answersTo
@@ -115,6 +123,11 @@ pub demand3-in-c : Demand3InC
 demand3-in-c width height entries h list display virt list-long display-long virt-long calls =
     let z = sizes width height entries in
     let made = made-fresh width height entries h in
-    let same = ap (λ words. returnsTo calls (caller words list display virt)) (made .1) ∙ returns-same calls (world (freshBoard z) list display virt) in
-    subst (λ answers. Throughout (z .extent) calls answers (paper (scene freshEngine display virt) list [])) (sym same)
-    (demand3 width height entries (made .0) list display virt list-long display-long virt-long calls)
+    let w = world (freshBoard z) list display virt in
+    let p = paper (scene freshEngine display virt) list [] in
+    let kept = ap (λ words. caller words list display virt) (made .1) in
+    let found : worldIn (imageOf w) ≡ w = ap (λ b. world b list display virt) (decodes-encoded (freshBoard z)) in
+    subst (λ k. Throughout (z .extent) calls (worldIn k) (returnsTo calls k) p) (sym kept)
+    (subst (λ v. Throughout (z .extent) calls v (returnsTo calls (imageOf w)) p) (sym found)
+    (subst (λ answers. Throughout (z .extent) calls w answers p) (sym (returns-same calls w))
+    (demand3 width height entries (made .0) list display virt list-long display-long virt-long calls)))

@@ -14,13 +14,14 @@ use Rattle.board.specs.declared.record.Board.{Board}
 use Rattle.board.proofs.Forms.{Good, none-waits}
 use Rattle.statements.specs.Paper.{Call, posted, fed}
 use Rattle.statements.specs.World.{World, Called}
+use Rattle.statements.specs.Demand.{BadFeed}
 use Rattle.statements.proofs.Abstract.{itemsOf, queueOf, paperOf, Valid}
 
 pub record Kept (w : World) (c : Call) (o : Called) : Type 0 where
   pub valid : Valid (o .after)
   pub sizes-same : o .after .board .sizes ≡ w .board .sizes
   pub paper-same : fed (w .board .sizes .extent) c (eqb (o .report .number) 0) (o .report .steps) (paperOf w) ≡ paperOf (o .after)
-  pub not-malformed : o .report .number ≡ 1 → ⊥
+  pub one-by-feed : o .report .number ≡ 1 → BadFeed (w .board .sizes) c
   pub no-nine : o .report .number ≡ 9 → ⊥
 
 -- a slot that is not taken has no items and no entries
@@ -34,13 +35,13 @@ idle-queue l b g t = ap₂ _++_ (no-items l (b .active) t) (no-items l (activeOn
 -- a refusal changes nothing
 pub refused : (w : World) → Valid w → (c : Call) (report : Report)
     → fed (w .board .sizes .extent) c false (report .steps) (paperOf w) ≡ paperOf w → (report .number ≡ 0 → ⊥)
-    → (report .number ≡ 1 → ⊥) → (report .number ≡ 9 → ⊥) → Kept w c (record { report = report; after = w })
-refused w v c report e done malformed nine =
+    → (report .number ≡ 1 → BadFeed (w .board .sizes) c) → (report .number ≡ 9 → ⊥) → Kept w c (record { report = report; after = w })
+refused w v c report e done one nine =
     record {
       valid = v;
       sizes-same = refl;
       paper-same =
           ap (λ t. fed (w .board .sizes .extent) c t (report .steps) (paperOf w)) (ne-eqb (report .number) 0 done) ∙ e;
-      not-malformed = malformed;
+      one-by-feed = one;
       no-nine = nine;
     }

@@ -3,6 +3,7 @@ pub mod Kept
 pub mod Empties
 pub mod Posting
 pub mod Storing
+pub mod Feeding
 pub mod Writing
 pub mod Commutes
 pub mod Sequence

@@ -138,7 +138,7 @@ module _ (w : World) (v : Valid w) (start count : ℕ) where
             };
         sizes-same = z;
         paper-same = λ i. paper (scene (same i) (w .display) (w .virt)) (w .list) (queue i);
-        not-malformed = λ h. omega arith;
+        one-by-feed = λ h. omega arith;
         no-nine = λ h. omega arith;
       }
 

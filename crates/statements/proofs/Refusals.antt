@@ -5,7 +5,7 @@ use mathlib.Core.Bool.{Bool, true, false, cond, _&&_, _||_}
 use mathlib.Core.List.{List, []}
 use Prim.Native.Nat.{ℕ, _*_}
 use native.Mathlib.Omega.{arith}
-use borrow.Author.Tests.{eq-eqb, le-leb}
+use borrow.Author.Tests.{eq-eqb, ne-eqb, le-leb}
 use lib.Dec.{eqb, leb}
 use lib.ListN.{length}
 use Rattle.lemmas.proofs.Booleans.{both}
@@ -16,10 +16,12 @@ use Rattle.slots.specs.declared.record.Slot.{Slot}
 use Rattle.slots.proofs.Grounds.{store-done, write-busy, write-done}
 use Rattle.board.specs.Record.{wellFormed}
 use Rattle.board.specs.Calls.{writeCall}
+use Rattle.board.specs.Feeding.{Line, line, feedCall}
 use Rattle.board.proofs.Forms.{good-of, none-waits}
+use Rattle.board.proofs.Feeds.{refused-feed}
 use Rattle.board.proofs.Refused.{post-given, store-stays, write-stays, run-halts}
 use Rattle.board.proofs.Replies.{store-by, write-by}
-use Rattle.statements.specs.Paper.{post, store, write, run}
+use Rattle.statements.specs.Paper.{post, store, write, run, feed}
 use Rattle.statements.specs.World.{World, world, Called, called}
 use Rattle.statements.specs.Refusals.{RefusedStays, unchanged, EmptyStore, EmptyWrites}
 use Rattle.statements.proofs.Abstract.{machineOf, onto}
@@ -48,6 +50,10 @@ refused-stays (store first bytes) w n k =
     (λ i. world (s .0 i) (s .1 i) (w .display) (w .virt))
 refused-stays (write number offset bytes) w n k = write-refused w number offset bytes (eqb number 0) n
 refused-stays (run budget) w n k = ap (onto w) (run-halts budget (w .list) (machineOf w) n k)
+refused-stays (feed f piece) w n k =
+    let b = w .board in
+    ap (λ (s : Line). world (s .board) (s .memory) (w .display) (w .virt))
+    (refused-feed (line b f (w .list)) piece (ne-eqb (feedCall (w .list) f piece b .report .number) 0 n))
 
 -- ---- no bytes
 none-touched : (s : Slot) (first : ℕ) → holdsAny s first 0 ≡ false

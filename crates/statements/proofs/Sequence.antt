@@ -17,7 +17,7 @@ use Rattle.slots.specs.declared.record.Sizes.{Sizes}
 use Rattle.board.proofs.Forms.{Good, good-of, well-of}
 use Rattle.statements.specs.Paper.{Call, Paper, paper, fed}
 use Rattle.statements.specs.World.{World, world, Called, called, answersTo}
-use Rattle.statements.specs.Demand.{queueSpans, SlotsHold, Equal, Reports, Throughout, Demand3}
+use Rattle.statements.specs.Demand.{queueSpans, SlotsHold, Equal, NotMalformed, Reports, Throughout, Demand3}
 use Rattle.statements.proofs.Abstract.{paperOf, Valid, slots-hold}
 use Rattle.statements.proofs.Kept.{Kept}
 use Rattle.statements.proofs.Commutes.{keeps, reports}
@@ -33,22 +33,22 @@ equals w c o p k e =
       slots-hold =
           subst (λ p. SlotsHold (o .after .board) (queueSpans (p .queue))) e
           (slots-hold (o .after .list) (o .after .board) (good-of (o .after .board) (k .valid .well)));
-      not-malformed = k .not-malformed;
       no-nine = k .no-nine;
     }
 
 throughout : (extent : Extent) (calls : List Call) (w : World) (p : Paper) → Valid w → w .board .sizes .extent ≡ extent → paperOf w ≡ p
-    → Throughout extent calls (answersTo calls w) p
+    → Throughout extent calls w (answersTo calls w) p
 unfolding Throughout answersTo
 throughout extent [] w p v a e = tt
 throughout extent (c ∷ calls) w p v a e =
     let k = keeps c w v in
     let o = called c w in
-    let feed : Extent → Paper → Paper = λ x p. fed x c (eqb (o .report .number) 0) (o .report .steps) p in
-    let same : paperOf (o .after) ≡ feed extent p = sym (k .paper-same) ∙ ap₂ feed a e in (
-      equals w c o (feed extent p) k same,
+    let next : Extent → Paper → Paper = λ x p. fed x c (eqb (o .report .number) 0) (o .report .steps) p in
+    let same : paperOf (o .after) ≡ next extent p = sym (k .paper-same) ∙ ap₂ next a e in (
+      record { well-formed = v .well; one-by-feed = k .one-by-feed },
+      equals w c o (next extent p) k same,
       subst (λ x. Reports x c o p) a (subst (Reports (w .board .sizes .extent) c o) e (reports c w v)),
-      throughout extent calls (o .after) (feed extent p) (k .valid) (ap (λ z. z .extent) (k .sizes-same) ∙ a) same,
+      throughout extent calls (o .after) (next extent p) (k .valid) (ap (λ z. z .extent) (k .sizes-same) ∙ a) same,
     )
 
 fresh-good : (z : Sizes) → sizesOk z ≡ true → Good (freshBoard z)

@@ -91,7 +91,7 @@ module _ (w : World) (v : Valid w) (first : ℕ) (bytes : List ℕ) where
             paper-same =
                 ap₂ (λ es fs. paper (scene (b .engine) (w .display) (w .virt)) l (items (b .active) es ++ items (activeOn (b .pending)) fs))
                 active-stays pending-stays;
-            not-malformed = λ h. omega arith;
+            one-by-feed = λ h. omega arith;
             no-nine = λ h. omega arith;
           }
 

@@ -97,7 +97,7 @@ module _ (w : World) (v : Valid w) (number offset : ℕ) (bytes : List ℕ) wher
             };
         sizes-same = refl;
         paper-same = written-at-once (scene (w .board .engine) d e) u same;
-        not-malformed = λ h. omega arith;
+        one-by-feed = λ h. omega arith;
         no-nine = λ h. omega arith;
       }
 

@@ -10,8 +10,8 @@ use Rattle.answers.specs.Reports.{Report, report}
 use Rattle.commands.specs.Steps.{scene, freshEngine}
 use Rattle.board.specs.Calls.{sizes}
 use Rattle.pramolyt.specs.Image.{boardOf}
-use Rattle.pramolyt.specs.Exports.{makeImage, postImage, storeImage, writeImage, runImage}
-use Rattle.statements.specs.Paper.{Call, post, store, write, run, paper}
+use Rattle.pramolyt.specs.Exports.{makeImage, postImage, storeImage, writeImage, runImage, feedImage}
+use Rattle.statements.specs.Paper.{Call, post, store, write, run, feed, paper}
 use Rattle.statements.specs.World.{World, world, Called}
 use Rattle.statements.specs.Demand.{Throughout}
 
@@ -45,6 +45,9 @@ returned (write number offset bytes) k =
 returned (run budget) k =
     let r = runImage (k .words) budget (k .list) (k .display) (k .virt) in
     record { report = report (r .number) 0 (r .steps); after = caller (r .words) (k .list) (r .display) (r .virt) }
+returned (feed f piece) k =
+    let r = feedImage (k .words) f (k .list) piece in
+    record { report = report (r .number) 0 0; after = caller (r .words) (r .memory) (k .display) (k .virt) }
 
 -- The same with the record that the words are.
 abbrev pub worldIn : Caller → World
@@ -62,6 +65,5 @@ abbrev pub Demand3InC : Type 0
 Demand3InC =
     (width height entries : ℕ) → makeImage width height entries .number ≡ 0 → (list display virt : List ℕ)
     → length list ≡ 5 * entries → length display ≡ width * height → length virt ≡ width * height → (calls : List Call)
-    → Throughout (sizes width height entries .extent) calls
-    (returnsTo calls (caller (makeImage width height entries .words) list display virt))
-    (paper (scene freshEngine display virt) list [])
+    → let k = caller (makeImage width height entries .words) list display virt in
+    Throughout (sizes width height entries .extent) calls (worldIn k) (returnsTo calls k) (paper (scene freshEngine display virt) list [])

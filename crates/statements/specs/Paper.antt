@@ -9,6 +9,8 @@ use Rattle.geometry.specs.declared.Extent.{Extent}
 use Rattle.lists.specs.Spans.{spanOf}
 use Rattle.lists.specs.Cursors.{entriesFrom}
 use Rattle.lists.specs.declared.spans.Span.{Span}
+use Rattle.feeds.specs.Feeds.{joined, completed}
+use Rattle.feeds.specs.declared.Feed.{Feed}
 use Rattle.commands.specs.Steps.{Scene, scene, visitOf, takenOf}
 use Rattle.commands.specs.Wholes.{stepsOf}
 
@@ -18,6 +20,7 @@ pub data Call : Type 0 where
   store : ℕ → List ℕ → Call
   write : ℕ → ℕ → List ℕ → Call
   run : ℕ → Call
+  feed : Feed → List ℕ → Call
 
 -- What waits in the queue: a list, with the span that it was posted with and what is left of its copy; or a window write,
 -- with buffer, offset and bytes.
@@ -68,17 +71,24 @@ unfoldable pub stepsOn : ℕ → Extent → Paper → Paper
 stepsOn zero extent p = p
 stepsOn (suc n) extent p = stepsOn n extent (stepOn extent p)
 
--- "It is fed each call's arguments .. whether the answer was 0, and the steps a run reported."
+-- "A done store puts its bytes into list memory from its first entry on".
+abbrev pub storedOn : ℕ → List ℕ → Paper → Paper
+storedOn first bytes p = paper (p .drawing) (putInto (p .list) (5 * first) bytes) (p .queue)
+
+-- "It is fed each call's arguments .. whether the answer was 0, and the steps a run reported." "an
+-- accepted piece counts as a store of the entries it completes, whatever feed record it is given" (02, R-5).
 unfoldable pub fed : Extent → Call → Bool → ℕ → Paper → Paper
 fed extent (post start count) true steps p =
     paper (p .drawing) (p .list) (p .queue ++ (posted (spanOf start count) (entriesFrom (p .list) start count) ∷ []))
 fed extent (post start count) false steps p = p
-fed extent (store first bytes) true steps p = paper (p .drawing) (putInto (p .list) (5 * first) bytes) (p .queue)
+fed extent (store first bytes) true steps p = storedOn first bytes p
 fed extent (store first bytes) false steps p = p
 fed extent (write number offset bytes) true steps p =
     flushed (p .drawing) (p .list) (p .queue ++ (window number offset bytes ∷ []))
 fed extent (write number offset bytes) false steps p = p
 fed extent (run budget) answered steps p = stepsOn steps extent p
+fed extent (feed f piece) true steps p = storedOn (f .next) (completed (joined f piece)) p
+fed extent (feed f piece) false steps p = p
 
 -- The entries of the queue's lists, in the order in which they run, and the steps that would empty the queue.
 unfoldable pub queued : List Item → List Entry

@@ -7,8 +7,9 @@ use Rattle.answers.specs.Reports.{Report}
 use Rattle.board.specs.Steps.{machine}
 use Rattle.board.specs.Runs.{runCall}
 use Rattle.board.specs.Calls.{postCall, storeCall, writeCall}
+use Rattle.board.specs.Feeding.{feedCall}
 use Rattle.board.specs.declared.record.Board.{Board}
-use Rattle.statements.specs.Paper.{Call, post, store, write, run}
+use Rattle.statements.specs.Paper.{Call, post, store, write, run, feed}
 
 pub record World : Type 0 where
   pub board : Board
@@ -23,7 +24,7 @@ pub record Called : Type 0 where
   pub report : Report
   pub after : World
 
--- "Post and store are lent the list memory, a window write the named buffer, a run all three."
+-- "Post and store are lent the list memory, a window write the named buffer, a run all three." A feed is lent the list memory.
 unfoldable pub called : Call → World → Called
 called (post start count) w =
     let r = postCall (w .list) start count (w .board) in
@@ -39,6 +40,9 @@ called (write number offset bytes) w =
 called (run budget) w =
     let r = runCall budget (w .list) (machine (w .board) (w .display) (w .virt)) in
     record { report = r .report; after = world (r .after .board) (w .list) (r .after .display) (r .after .virt) }
+called (feed f piece) w =
+    let r = feedCall (w .list) f piece (w .board) in
+    record { report = r .report; after = world (r .after .board) (r .after .memory) (w .display) (w .virt) }
 
 -- What the calls of a sequence answer, each on what the last one left.
 unfoldable pub answersTo : List Call → World → List Called

@@ -1,14 +1,25 @@
 //! A call with its arguments, other than the board record and the lent memories.
 
+use reference::Feed;
 use std::fmt;
 
 /// The names of the calls, by [`Call::kind`].
-pub const CALLS: [&str; 5] = ["make", "post", "store", "window write", "run"];
+pub const CALLS: [&str; 7] = [
+    "make",
+    "post",
+    "store",
+    "feed start",
+    "feed",
+    "window write",
+    "run",
+];
 
-/// The answers that document 01 allows each call, by [`Call::kind`].
-pub const ALLOWED: [&[usize]; 5] = [
+/// The answers that documents 01 and 02 allow each call, by [`Call::kind`].
+pub const ALLOWED: [&[usize]; 7] = [
     &[0, 2],
     &[0, 1, 2, 3, 4, 5, 6],
+    &[0, 1, 2, 4, 8],
+    &[0],
     &[0, 1, 2, 4, 8],
     &[0, 1, 2, 4, 7],
     &[0, 1, 2, 9],
@@ -39,6 +50,18 @@ pub enum Call {
         /// What is stored.
         bytes: Vec<u8>,
     },
+    /// Start a feed record, which always succeeds.
+    FeedStart {
+        /// Its first entry.
+        entry: u64,
+    },
+    /// Feed a piece.
+    Feed {
+        /// The feed record given.
+        feed: Feed,
+        /// The piece.
+        piece: Vec<u8>,
+    },
     /// Write into a buffer.
     WindowWrite {
         /// The buffer's number.
@@ -62,8 +85,10 @@ impl Call {
             Call::Make { .. } => 0,
             Call::Post { .. } => 1,
             Call::Store { .. } => 2,
-            Call::WindowWrite { .. } => 3,
-            Call::Run { .. } => 4,
+            Call::FeedStart { .. } => 3,
+            Call::Feed { .. } => 4,
+            Call::WindowWrite { .. } => 5,
+            Call::Run { .. } => 6,
         }
     }
 }
@@ -79,6 +104,8 @@ impl fmt::Display for Call {
             } => write!(f, " {width} by {height}, {entries} entries"),
             Call::Post { start, count } => write!(f, " start {start}, count {count}"),
             Call::Store { first, bytes } => write!(f, " first {first}, bytes {bytes:02X?}"),
+            Call::FeedStart { entry } => write!(f, " entry {entry}"),
+            Call::Feed { feed, piece } => write!(f, " {feed:02X?}, piece {piece:02X?}"),
             Call::WindowWrite {
                 number,
                 offset,

@@ -1,6 +1,7 @@
 //! Random calls that go by the board's state: most are done, and each ground of refusal comes up.
 
 use crate::call::Call;
+use crate::feeds::{self, Line};
 use crate::lists::{Size, list};
 use crate::random::Random;
 use crate::sides::Reference;
@@ -13,19 +14,21 @@ pub type Span = (u64, u64);
 const CHEAP: u64 = 2_000;
 const DEAR: u64 = 80_000;
 
-/// A call for a board in this state; `stored` is the span that was stored last.
-pub fn call(random: &mut Random, side: &Reference, stored: Span) -> Call {
+/// A call for a board in this state; `stored` is the span that was stored or fed last, and pieces come from the line.
+pub fn call(random: &mut Random, side: &Reference, stored: Span, line: &mut Line) -> Call {
     let record = &side.record;
     let weights = match (record.active_taken, record.pending_taken) {
-        (0, _) => [1, 12, 8, 6, 2],
-        (_, 0) => [1, 6, 6, 2, 14],
-        (_, _) => [1, 2, 5, 2, 14],
+        (0, _) => [1, 12, 6, 2, 8, 6, 2],
+        (_, 0) => [1, 6, 5, 1, 6, 2, 14],
+        (_, _) => [1, 2, 4, 1, 5, 2, 14],
     };
     match random.weighted(&weights) {
         0 => make(random),
         1 => post(random, record, stored),
         2 => store(random, record),
-        3 => window_write(random, record),
+        3 => feeds::start(random, record),
+        4 => line.feed(random, record),
+        5 => window_write(random, record),
         _ => Call::Run {
             budget: budget(random, side),
         },
@@ -72,7 +75,7 @@ fn wrapping(random: &mut Random) -> Span {
 }
 
 /// A number at an extreme, or one that looks like a small number to who reads 32 bits of it.
-fn extreme(random: &mut Random, near: u64) -> u64 {
+pub fn extreme(random: &mut Random, near: u64) -> u64 {
     let close = random.below(near + 2);
     random.pick(&[
         0,

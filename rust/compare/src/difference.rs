@@ -1,7 +1,7 @@
 //! The first thing in which two sides differ, by name.
 
 use crate::lists::ENTRY;
-use crate::sides::{Engine, Reference};
+use crate::sides::{Engine, Reference, engine_feed};
 use reference::{NAMES, PaperBoard, Record, Report};
 
 /// What two sides answered.
@@ -18,6 +18,12 @@ pub fn of_answers(engine: &Report, reference: &Report) -> Result<(), String> {
 pub fn of_sides(engine: &Engine, reference: &Reference) -> Result<(), String> {
     let (board, record) = (engine.board.words(), reference.record.words());
     of_words(&board, &record, 0, "reference")?;
+    let (feed, other) = (&engine.feed, &reference.feed);
+    if *feed != engine_feed(other) {
+        return Err(format!(
+            "the feed record: the engine has {feed:02X?}, the reference {other:02X?}"
+        ));
+    }
     let (ours, theirs) = (&engine.memories, &reference.memories);
     let width = engine.board.width();
     of_list(&ours.list, &theirs.list, "reference")?;

@@ -1,5 +1,5 @@
 //! The proved engine and the independent reference, driven side by side over random sequences of calls. After each call
-//! the answer, every word of the record and every byte of the memories must be equal; in honest sequences, which begin
+//! the answer, every word of the records and every byte of the memories must be equal; in honest sequences, which begin
 //! with make and lend the right memories, the paper board of document 01 must agree too. So are the two conversions of list
 //! files, over random files.
 #![deny(missing_docs)]
@@ -8,6 +8,7 @@ pub mod call;
 pub mod choose;
 pub mod compared;
 pub mod difference;
+pub mod feeds;
 pub mod lists;
 pub mod packing;
 pub mod paper;

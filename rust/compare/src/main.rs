@@ -1,8 +1,10 @@
 //! compare                        the fixed set: sequences and files of fixed seeds, and whether all that has to come up did
-//! compare long SEED CALLS        about so many calls from another seed, on two threads
+//! compare long SEED CALLS        about so many calls from another seed
 //! compare files SEED CONVERSIONS the same for list files
 //! compare replay SEED            one sequence, call by call
 //! compare file SEED              one list file
+//!
+//! All but the last two run on two threads.
 
 use compare::compared::Compared;
 use compare::packing::Conversions;
@@ -15,8 +17,10 @@ use std::time::Instant;
 
 /// The fixed set.
 const SEED: u64 = 1;
-const SEQUENCES: u64 = 150_000;
-const FILES: u64 = 100_000;
+const SEQUENCES: u64 = 50_000;
+const FILES: u64 = 50_000;
+
+const THREADS: u64 = 2;
 
 /// Calls between two lines of progress.
 const PROGRESS: u64 = 5_000_000;
@@ -92,8 +96,8 @@ struct Checks {
 /// So many sequences or files of the fixed seed, and whether all that has to come up did.
 fn fixed<C: Compared>(number: u64) -> Checks {
     println!("seed {SEED}, {number} {}s", C::UNIT);
-    let mut counts = C::default();
-    if !(0..number).all(|index| play_one(SEED, index, &mut counts)) {
+    let (counts, equal) = play_while::<C>(SEED, |index, _| index < number);
+    if !equal {
         return Checks {
             passed: 0,
             failed: 1,
@@ -111,43 +115,52 @@ fn fixed<C: Compared>(number: u64) -> Checks {
 }
 
 fn long<C: Compared>(seed: u64, calls: u64) -> bool {
-    const THREADS: u64 = 2;
     println!("seed {seed}, {calls} {} on {THREADS} threads", C::CALLS);
     let begun = Instant::now();
-    let stop = AtomicBool::new(false);
-    let counts: Vec<C> = thread::scope(|scope| {
-        let stop = &stop;
-        let worker = |first| move || stride(seed, first, THREADS, calls / THREADS, stop);
-        let workers: Vec<_> = (0..THREADS)
-            .map(|first| scope.spawn(worker(first)))
-            .collect();
-        workers
-            .into_iter()
-            .map(|worker| worker.join().expect("a thread ends"))
-            .collect()
-    });
-    let mut total = C::default();
-    counts.iter().for_each(|counts| total.add(counts));
-    total.print();
+    let (counts, equal) = play_while::<C>(seed, |_, counts| counts.calls() < calls / THREADS);
+    counts.print();
     let seconds = begun.elapsed().as_secs_f64();
     println!(
         "{:.0} {} a second",
-        total.calls() as f64 / seconds,
+        counts.calls() as f64 / seconds,
         C::CALLS
     );
-    !stop.load(Ordering::Relaxed)
+    equal
 }
 
-/// The sequences or files first, first + by and so on of a seed, until so many calls are done or a difference is found.
-fn stride<C: Compared>(seed: u64, first: u64, by: u64, calls: u64, stop: &AtomicBool) -> C {
+/// Plays the sequences or files of a seed, every thread while this holds of its next one and its counts, and no thread found a
+/// difference. The counts, and whether none was found.
+fn play_while<C: Compared>(seed: u64, goes_on: impl Fn(u64, &C) -> bool + Sync) -> (C, bool) {
+    let stop = AtomicBool::new(false);
+    let mut total = C::default();
+    thread::scope(|scope| {
+        let (goes_on, stop) = (&goes_on, &stop);
+        let worker = |first| move || stride(seed, first, goes_on, stop);
+        let workers: Vec<_> = (0..THREADS)
+            .map(|first| scope.spawn(worker(first)))
+            .collect();
+        for worker in workers {
+            total.add(&worker.join().expect("a thread ends"));
+        }
+    });
+    (total, !stop.load(Ordering::Relaxed))
+}
+
+/// What one thread plays: those numbered first, first + THREADS and so on.
+fn stride<C: Compared>(
+    seed: u64,
+    first: u64,
+    goes_on: &impl Fn(u64, &C) -> bool,
+    stop: &AtomicBool,
+) -> C {
     let mut counts = C::default();
     let mut told = 0;
     let mut index = first;
-    while counts.calls() < calls && !stop.load(Ordering::Relaxed) {
+    while goes_on(index, &counts) && !stop.load(Ordering::Relaxed) {
         if !play_one(seed, index, &mut counts) {
             stop.store(true, Ordering::Relaxed);
         }
-        index += by;
+        index += THREADS;
         if counts.calls() / PROGRESS > told {
             told = counts.calls() / PROGRESS;
             println!("thread {first}: {} {}", counts.calls(), C::CALLS);

@@ -2,7 +2,7 @@
 
 use crate::call::Call;
 use crate::sides::Memories;
-use reference::{PaperBoard, Report};
+use reference::{PaperBoard, Record, Report};
 
 /// The paper board that begins with these bytes.
 pub fn begin(width: u64, height: u64, memories: &Memories) -> PaperBoard {
@@ -22,14 +22,16 @@ pub fn due(paper: &PaperBoard, call: &Call) -> u64 {
     }
 }
 
-/// Feeds the paper board a call. What document 01 says of the answers in such a sequence must hold.
+/// Feeds the paper board a call. What document 01 says of the answers in such a sequence must hold; a feed may answer 1 for its
+/// own record. `record` is the board record after the call, which is the one before it where the answer is 1.
 pub fn follow(
     paper: &mut PaperBoard,
     call: &Call,
     report: &Report,
+    record: &Record,
     due: u64,
 ) -> Result<(), String> {
-    if matches!(report.number, 1 | 9) {
+    if report.number == 9 || report.number == 1 && record.malformed() {
         return Err(format!("answer {} in an honest sequence", report.number));
     }
     let done = report.number == 0;
@@ -37,9 +39,10 @@ pub fn follow(
         return Err(format!("{} steps, {due} by the paper board", report.steps));
     }
     match call {
-        Call::Make { .. } => {}
+        Call::Make { .. } | Call::FeedStart { .. } => {}
         Call::Post { start, count } => paper.post(*start, *count, done),
         Call::Store { first, bytes } => paper.store(*first, bytes, done),
+        Call::Feed { feed, piece } => paper.feed(feed, piece, done),
         Call::WindowWrite {
             number,
             offset,

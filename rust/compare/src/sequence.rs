@@ -3,14 +3,15 @@
 use crate::call::Call;
 use crate::choose::{self, Span};
 use crate::difference;
+use crate::feeds::Line;
 use crate::lists::{self, Size};
 use crate::paper;
 use crate::random::Random;
-use crate::sides::{Engine, Memories, Reference};
+use crate::sides::{Engine, Memories, Reference, engine_feed};
 use crate::spoil;
 use crate::tally::Tally;
 use pramolyt::Board;
-use reference::PaperBoard;
+use reference::{Feed, PaperBoard};
 use std::panic::{AssertUnwindSafe, catch_unwind};
 
 /// The names of the kinds.
@@ -32,7 +33,10 @@ struct Sequence<'a> {
     engine: Engine,
     reference: Reference,
     paper: Option<PaperBoard>,
+    /// The span that was stored or fed last, and whether it was fed.
     stored: Span,
+    fed: bool,
+    line: Line,
     /// The calls so far, and the last of them.
     calls: u64,
     call: Option<Call>,
@@ -55,17 +59,25 @@ impl Sequence<'_> {
         let (width, height, entries) = sizes(&mut random);
         let (_, record) = reference::make(width, height, entries);
         let memories = memories(&mut random, width, height, entries);
+        let feed = Feed::start(0);
         tally.sequence(kind);
         Sequence {
             kind,
             random,
             engine: Engine {
                 board: Board::from_words(record.words()),
+                feed: engine_feed(&feed),
                 memories: memories.clone(),
             },
             paper: (kind == Kind::Honest).then(|| paper::begin(width, height, &memories)),
-            reference: Reference { record, memories },
+            reference: Reference {
+                record,
+                feed,
+                memories,
+            },
             stored: (0, 1),
+            fed: false,
+            line: Line::new(feed),
             calls: 0,
             call: None,
             tally,
@@ -95,7 +107,8 @@ impl Sequence<'_> {
 
     /// A call that goes by the board's state. A board made on the way is looked at and left.
     fn choose(&mut self) -> Result<(), String> {
-        let call = choose::call(&mut self.random, &self.reference, self.stored);
+        let (random, line) = (&mut self.random, &mut self.line);
+        let call = choose::call(random, &self.reference, self.stored, line);
         let record = self.reference.record;
         let is_make = matches!(call, Call::Make { .. });
         self.both(call)?;
@@ -126,6 +139,7 @@ impl Sequence<'_> {
     fn copy_to_engine(&mut self) {
         self.engine = Engine {
             board: Board::from_words(self.reference.record.words()),
+            feed: engine_feed(&self.reference.feed),
             memories: self.reference.memories.clone(),
         };
     }
@@ -143,18 +157,40 @@ impl Sequence<'_> {
         difference::of_answers(&report, &expected)?;
         difference::of_sides(&self.engine, &self.reference)?;
         if let (Some(paper), Some(due)) = (&mut self.paper, due) {
-            paper::follow(paper, call, &report, due)?;
+            paper::follow(paper, call, &report, &self.reference.record, due)?;
             if !matches!(call, Call::Make { .. }) {
                 difference::from_paper(&self.engine, &self.reference.record, paper)?;
             }
         }
         self.tally.call(call, &report, &self.reference.record);
-        if let (Call::Store { first, bytes }, 0) = (&*call, report.number)
-            && !bytes.is_empty()
-        {
-            self.stored = (*first, (bytes.len() / lists::ENTRY) as u64);
+        if report.number == 0 {
+            self.done();
         }
         Ok(())
+    }
+
+    /// What a done call leaves for those after it.
+    fn done(&mut self) {
+        let feed = self.reference.feed;
+        match &self.call {
+            Some(Call::Store { first, bytes }) if !bytes.is_empty() => {
+                self.stored = (*first, (bytes.len() / lists::ENTRY) as u64);
+                self.fed = false;
+            }
+            Some(Call::FeedStart { .. }) => self.line = Line::new(feed),
+            Some(Call::Feed { feed: given, piece }) => {
+                self.line.taken(given, piece, feed);
+                let completed = feed.next - given.next;
+                if completed > 0 {
+                    self.stored = fed_span(self.stored, self.fed, given.next, completed);
+                    self.fed = true;
+                }
+            }
+            Some(Call::Post { start, count }) if self.fed && self.stored == (*start, *count) => {
+                self.tally.fed_list();
+            }
+            _ => {}
+        }
     }
 
     fn describe(&self, what: &str) -> String {
@@ -164,6 +200,17 @@ impl Sequence<'_> {
             None => "none".to_string(),
         };
         format!("{kind} sequence, call {}: {call}\n{what}", self.calls)
+    }
+}
+
+/// The span of fed entries, which goes on with the one before, up to a length that is cheap to run.
+fn fed_span(stored: Span, fed: bool, first: u64, count: u64) -> Span {
+    const MOST: u64 = 30;
+    let (start, before) = stored;
+    if fed && start + before == first && before + count <= MOST {
+        (start, before + count)
+    } else {
+        (first, count.min(MOST))
     }
 }
 

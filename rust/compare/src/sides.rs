@@ -2,7 +2,9 @@
 
 use crate::call::Call;
 use pramolyt::{Answer, Board};
-use reference::{Record, Report};
+use reference::entries::entry_at;
+use reference::state::State;
+use reference::{Feed, Record, Report};
 
 /// The memories that a side lends to its calls.
 #[derive(Clone)]
@@ -29,6 +31,8 @@ impl Memories {
 pub struct Engine {
     /// Its board.
     pub board: Board,
+    /// The feed record that its last feed left.
+    pub feed: pramolyt::Feed,
     /// Its memories.
     pub memories: Memories,
 }
@@ -36,7 +40,11 @@ pub struct Engine {
 impl Engine {
     /// One call.
     pub fn call(&mut self, call: &Call) -> Report {
-        let Engine { board, memories } = self;
+        let Engine {
+            board,
+            feed,
+            memories,
+        } = self;
         let answer = match call {
             Call::Make {
                 width,
@@ -49,6 +57,14 @@ impl Engine {
             }
             Call::Post { start, count } => board.post(&memories.list, size(*start), size(*count)),
             Call::Store { first, bytes } => board.store(&mut memories.list, size(*first), bytes),
+            Call::FeedStart { entry } => {
+                *feed = pramolyt::Feed::start(size(*entry));
+                Answer::Done { steps: 0 }
+            }
+            Call::Feed { feed: given, piece } => {
+                *feed = engine_feed(given);
+                board.feed(feed, &mut memories.list, piece)
+            }
             Call::WindowWrite {
                 number,
                 offset,
@@ -70,6 +86,11 @@ impl Engine {
     }
 }
 
+/// The engine's feed record with the parts of the reference's.
+pub fn engine_feed(feed: &Feed) -> pramolyt::Feed {
+    pramolyt::Feed::from_parts(size(feed.next), feed.held, feed.count)
+}
+
 /// A usize has 64 bits wherever the library is.
 fn size(number: u64) -> usize {
     number as usize
@@ -88,6 +109,8 @@ fn report(answer: Answer) -> Report {
 pub struct Reference {
     /// Its board record.
     pub record: Record,
+    /// The feed record that its last feed left.
+    pub feed: Feed,
     /// Its memories.
     pub memories: Memories,
 }
@@ -95,7 +118,11 @@ pub struct Reference {
 impl Reference {
     /// One call.
     pub fn call(&mut self, call: &Call) -> Report {
-        let Reference { record, memories } = self;
+        let Reference {
+            record,
+            feed,
+            memories,
+        } = self;
         match call {
             Call::Make {
                 width,
@@ -109,6 +136,14 @@ impl Reference {
             Call::Post { start, count } => reference::post(record, &memories.list, *start, *count),
             Call::Store { first, bytes } => {
                 reference::store(record, &mut memories.list, *first, bytes)
+            }
+            Call::FeedStart { entry } => {
+                *feed = Feed::start(*entry);
+                Report::plain(0)
+            }
+            Call::Feed { feed: given, piece } => {
+                *feed = *given;
+                reference::feed(record, feed, &mut memories.list, piece)
             }
             Call::WindowWrite {
                 number,
@@ -129,9 +164,77 @@ impl Reference {
         }
     }
 
-    /// The steps that a run would take, where they are fewer than the limit.
+    /// The steps that a run would take, where they are fewer than the limit. Nothing is drawn.
     pub fn steps_left(&self, limit: u64) -> Option<u64> {
-        let report = self.clone().call(&Call::Run { budget: limit });
-        (report.steps < limit).then_some(report.steps)
+        let Reference {
+            record, memories, ..
+        } = self;
+        if record.malformed() {
+            return Some(0);
+        }
+        let mut state = record.state();
+        let mut steps = finish(&mut state);
+        let mut next = u64::from(record.next);
+        for (start, count) in record.taken_spans() {
+            for place in next.max(start)..start + count {
+                let Some((number, data)) = entry_at(&memories.list, place as usize) else {
+                    return (steps < limit).then_some(steps);
+                };
+                state.write(number, data);
+                steps += 1 + finish(&mut state);
+                if steps >= limit {
+                    return None;
+                }
+            }
+            next = 0;
+        }
+        (steps < limit).then_some(steps)
+    }
+}
+
+/// Ends the command under way; the pixels that it had left.
+fn finish(state: &mut State) -> u64 {
+    let pixels = state.pixels_left();
+    if state.under_way {
+        state.finish_command();
+    }
+    pixels
+}
+
+#[cfg(test)]
+mod tests {
+    use super::{Memories, Reference};
+    use crate::call::Call;
+    use crate::lists::{Size, list};
+    use crate::random::Random;
+    use crate::spoil::anywhere;
+    use reference::{Feed, Record};
+
+    #[test]
+    fn steps_are_counted_as_a_run_takes_them() {
+        const LIMIT: u64 = 30;
+        let size = Size {
+            width: 8,
+            height: 4,
+        };
+        let mut random = Random::new(1);
+        let (mut counted, mut more) = (0, 0);
+        for _ in 0..2_000 {
+            let mut side = Reference {
+                record: anywhere(&mut random, Record::fresh(8, 4, 12)),
+                feed: Feed::start(0),
+                memories: Memories {
+                    list: list(&mut random, size, 12),
+                    display: vec![0; 32],
+                    virt: vec![0; 32],
+                },
+            };
+            let left = side.steps_left(LIMIT);
+            let steps = side.call(&Call::Run { budget: LIMIT }).steps;
+            assert_eq!(left, (steps < LIMIT).then_some(steps));
+            counted += u64::from(left.is_some_and(|left| left > 0));
+            more += u64::from(left.is_none());
+        }
+        assert!(counted > 100 && more > 100, "{counted}, {more}");
     }
 }

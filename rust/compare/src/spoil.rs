@@ -74,7 +74,9 @@ fn resize(random: &mut Random, memory: &mut Vec<u8>) {
 
 /// Writes an entry into list memory, mostly where the active list has yet to fetch.
 fn spoil_list(random: &mut Random, side: &mut Reference) {
-    let Reference { record, memories } = side;
+    let Reference {
+        record, memories, ..
+    } = side;
     let size = Size::of(record);
     let entry = match random.below(3) {
         0 => legal_entry(random, size),

@@ -2,10 +2,11 @@
 
 use crate::call::{ALLOWED, CALLS, Call};
 use crate::compared::Compared;
+use crate::lists::ENTRY;
 use crate::sequence::{self, KINDS, Kind};
 use crate::stipples::{STIPPLES, Stipple, ignores_bits, reads_bits};
 use reference::entries::{Command, flag, opcode};
-use reference::{Record, Report};
+use reference::{Feed, Record, Report};
 
 /// A kind of command, by name.
 type Commands = (&'static str, fn(Command) -> bool);
@@ -32,6 +33,13 @@ const FLAGS: [(&str, u32); 9] = [
     ("destination", flag::DESTINATION),
 ];
 
+/// The grounds of a bad feed record, each alone, in the order of [`Feed::faults`].
+const BAD_FEEDS: [&str; 3] = [
+    "the next entry is past the end",
+    "more than four held bytes",
+    "an unused byte is not zero",
+];
+
 /// A run of more steps has drawn a line whose length takes more than 15 bits.
 const LONG: u64 = 40_000;
 
@@ -49,6 +57,14 @@ pub struct Tally {
     flags: [u64; FLAGS.len()],
     directions: [[u64; 4]; BLITS.len()],
     stipples: [u64; STIPPLES.len()],
+    /// Accepted feeds by the bytes held before and after.
+    held: [[u64; 5]; 5],
+    /// Accepted feeds at the end of list memory, which complete nothing.
+    at_the_end: u64,
+    /// Feeds refused for one ground of a bad feed record alone.
+    bad_feeds: [u64; BAD_FEEDS.len()],
+    /// Posts of lists that were fed.
+    fed_lists: u64,
 }
 
 impl Tally {
@@ -64,6 +80,28 @@ impl Tally {
         self.longest = self.longest.max(report.steps);
         if report.steps > 0 && record.under_way == 1 {
             self.cut(record);
+        }
+        if let Call::Feed { feed, piece } = call {
+            self.feed(feed, piece, report, record);
+        }
+    }
+
+    /// Counts an accepted post of a list that was fed.
+    pub fn fed_list(&mut self) {
+        self.fed_lists += 1;
+    }
+
+    fn feed(&mut self, feed: &Feed, piece: &[u8], report: &Report, record: &Record) {
+        let entries = u64::from(record.entries);
+        if report.number == 0 {
+            let held = feed.count as usize;
+            self.held[held][(held + piece.len()) % ENTRY] += 1;
+            self.at_the_end += u64::from(feed.next == entries);
+        } else if let (1, [fault], false) =
+            (report.number, &feed.faults(entries)[..], record.malformed())
+        {
+            let which = BAD_FEEDS.iter().position(|ground| ground == fault);
+            self.bad_feeds[which.expect("a ground by its name")] += 1;
         }
     }
 
@@ -114,6 +152,10 @@ impl Compared for Tally {
             other.directions.as_flattened(),
         );
         add(&mut self.stipples, &other.stipples);
+        add(self.held.as_flattened_mut(), other.held.as_flattened());
+        self.at_the_end += other.at_the_end;
+        add(&mut self.bad_feeds, &other.bad_feeds);
+        self.fed_lists += other.fed_lists;
     }
 
     fn coverage(&self) -> Vec<(String, bool)> {
@@ -146,6 +188,16 @@ impl Compared for Tally {
         for (&count, (name, _)) in self.stipples.iter().zip(STIPPLES) {
             checks.push((format!("a stippled blit that {name} is cut"), count > 0));
         }
+        for (held, counts) in self.held.iter().enumerate() {
+            let name = format!("feeds with {held} held bytes leave 0 to 4");
+            checks.push((name, counts.iter().all(|&count| count > 0)));
+        }
+        for (name, count) in BAD_FEEDS.iter().zip(self.bad_feeds) {
+            checks.push((format!("a feed is refused, {name}"), count > 0));
+        }
+        let at_the_end = "a feed at the end of list memory".to_string();
+        checks.push((at_the_end, self.at_the_end > 0));
+        checks.push(("a fed list is posted".to_string(), self.fed_lists > 0));
         checks
     }
 
@@ -181,6 +233,12 @@ impl Compared for Tally {
         for (count, (name, _)) in self.stipples.iter().zip(STIPPLES) {
             println!("  {name} {count}");
         }
+        println!("feeds by held bytes before and after {:?}", self.held);
+        println!("  at the end of list memory {}", self.at_the_end);
+        for (name, count) in BAD_FEEDS.iter().zip(self.bad_feeds) {
+            println!("  refused, {name} {count}");
+        }
+        println!("  fed lists posted {}", self.fed_lists);
     }
 }
 

@@ -3,7 +3,7 @@ use core::fmt;
 
 /// What a call answers. Where several grounds of refusal hold, it is the one with the lowest number.
 ///
-/// In every refusal but [`Answer::IllegalFetch`] the board and the lent memories stay as they were.
+/// In every refusal but [`Answer::IllegalFetch`] the board, the feed record and the lent memories stay as they were.
 #[derive(Clone, Copy, Debug, PartialEq, Eq)]
 #[must_use = "a call may be refused"]
 pub enum Answer {
@@ -12,13 +12,14 @@ pub enum Answer {
         /// The steps of a run; 0 for any other call.
         steps: u64,
     },
-    /// 1: the record fails the test of a board record. The test looks at the record alone; not every change is seen.
+    /// 1: the record fails the test of a board record, or a feed record is bad. The test of a board record looks at the
+    /// record alone; not every change is seen.
     Malformed,
     /// 2: a size or a length is wrong, or a buffer number; each call says which.
     WrongSize,
     /// 3: a list of no entries.
     NoEntries,
-    /// 4: a span passes the end of its memory.
+    /// 4: a span passes the end of its memory; of a feed, the entries that the piece completes do.
     PastTheEnd,
     /// 5: both slots are taken.
     SlotsFull,
@@ -29,7 +30,7 @@ pub enum Answer {
     },
     /// 7: a window write while a slot is taken.
     Busy,
-    /// 8: a store touches an entry of a list in a slot.
+    /// 8: a store touches, or a feed's piece completes, an entry of a list in a slot.
     EntryHeld,
     /// 9: a run came to an illegal entry.
     IllegalFetch {
@@ -104,7 +105,8 @@ impl fmt::Display for Answer {
             Answer::Done { steps } => write!(f, "done, {steps} steps"),
             Answer::Malformed => write!(
                 f,
-                "the board record is damaged or was never made; make the board anew"
+                "the board record or the feed record is damaged or was never made, or the feed starts past the end of list \
+                 memory; make it anew"
             ),
             Answer::WrongSize => write!(
                 f,

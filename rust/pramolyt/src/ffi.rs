@@ -27,6 +27,21 @@ unsafe extern "C" {
         bytes_len: usize,
     ) -> u32;
 
+    #[link_name = "pramolyt_feed_start_fields_r1"]
+    pub fn pramolyt_feed_start_fields(next: *mut u64, held: *mut u8, count: *mut u32, entry: u64);
+
+    #[link_name = "pramolyt_feed_fields_r1"]
+    pub fn pramolyt_feed_fields(
+        board: *mut Board,
+        next: *mut u64,
+        held: *mut u8,
+        count: *mut u32,
+        list: *mut u8,
+        list_len: usize,
+        piece: *const u8,
+        piece_len: usize,
+    ) -> u32;
+
     #[link_name = "pramolyt_window_write_r1"]
     pub fn pramolyt_window_write(
         board: *mut Board,

@@ -21,6 +21,9 @@
 //! # Ok::<(), Answer>(())
 //! ```
 //!
+//! A list that comes in pieces, cut anywhere, goes into list memory by [`Board::feed`], with a [`Feed`] that holds the bytes of
+//! an entry not yet whole.
+//!
 //! [`pack`] and [`unpack`] take a list file from one edition to the other and need no board.
 //!
 //! The crate is `no_std`. The library has no state of its own: separate boards may run on separate threads at once.
@@ -34,6 +37,7 @@ compile_error!("libpramolyt.a is for x86-64");
 extern crate std;
 
 mod answer;
+mod feed;
 mod ffi;
 pub mod list;
 mod packing;
@@ -41,6 +45,7 @@ mod packing;
 mod tests;
 
 pub use answer::Answer;
+pub use feed::Feed;
 pub use packing::{FileAnswer, list_size, pack, packed_size, unpack};
 
 /// The number of the display buffer.
@@ -129,6 +134,50 @@ impl Board {
                 first,
                 bytes.as_ptr(),
                 bytes.len(),
+            )
+        };
+        Answer::from_report(number, 0, 0)
+    }
+
+    /// Stores a piece of a list that comes in pieces, cut anywhere. The bytes that `feed` holds and those of `piece` are read one
+    /// after the other: each entry that they complete goes into list memory, from the feed's next entry on, and the up to four
+    /// bytes left over are held. Whether an entry is legal is for [`Board::post`] to say.
+    ///
+    /// The answer is [`Answer::Malformed`] where `feed` is bad, too: its next entry is past the end of list memory, it holds
+    /// more than four bytes, or an unused one is not zero. It is [`Answer::WrongSize`] where `list` has not 5 bytes an entry of
+    /// the board, [`Answer::PastTheEnd`] or [`Answer::EntryHeld`] where an entry that the piece completes would be past the end
+    /// or is one of a list in a slot. In a refusal nothing of the piece is taken: the same piece may be fed again later.
+    ///
+    /// ```
+    /// use pramolyt::{Answer, Board, Feed};
+    ///
+    /// let (made, mut board) = Board::make(8, 4, 4);
+    /// made.ok()?;
+    /// let mut list = [0; 5 * 4];
+    ///
+    /// // FORE 7, then CMD a solid LINE, raster code copy, in three pieces
+    /// let mut feed = Feed::start(0);
+    /// board.feed(&mut feed, &mut list, &[8, 0, 0]).ok()?;
+    /// assert_eq!((feed.next_entry(), feed.held()), (0, &[8, 0, 0][..]));
+    /// board.feed(&mut feed, &mut list, &[0, 7, 0, 0x23, 0x80]).ok()?;
+    /// assert_eq!((feed.next_entry(), feed.held()), (1, &[0, 0x23, 0x80][..]));
+    /// board.feed(&mut feed, &mut list, &[0, 0]).ok()?;
+    /// assert_eq!((feed.next_entry(), feed.held()), (2, &[][..]));
+    /// assert_eq!(list[..10], [8, 0, 0, 0, 7, 0, 0x23, 0x80, 0, 0]);
+    /// # Ok::<(), Answer>(())
+    /// ```
+    pub fn feed(&mut self, feed: &mut Feed, list: &mut [u8], piece: &[u8]) -> Answer {
+        // SAFETY: as in store; board and feed are borrowed alone, and `held` has 4 bytes.
+        let number = unsafe {
+            ffi::pramolyt_feed_fields(
+                self,
+                &mut feed.next,
+                feed.held.as_mut_ptr(),
+                &mut feed.count,
+                list.as_mut_ptr(),
+                list.len(),
+                piece.as_ptr(),
+                piece.len(),
             )
         };
         Answer::from_report(number, 0, 0)

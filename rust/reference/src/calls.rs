@@ -1,5 +1,5 @@
-//! "What the host hears": the five calls. "The lowest number wins", so each call
-//! tries its grounds in the order of their numbers.
+//! "What the host hears": the five calls of document 01. "The lowest number wins", so
+//! each call tries its grounds in the order of their numbers.
 
 use crate::drawing::Buffers;
 use crate::entries::{entry_at, ENTRY_BYTES};
@@ -173,7 +173,7 @@ fn end_active_list(record: &mut Record) {
 }
 
 /// "a list memory of 5 bytes an entry"; else "a lent memory of another size".
-fn is_list_memory(record: &Record, list: &[u8]) -> bool {
+pub(crate) fn is_list_memory(record: &Record, list: &[u8]) -> bool {
     list.len() == ENTRY_BYTES * record.entries as usize
 }
 
@@ -183,13 +183,13 @@ fn is_buffer(record: &Record, buffer: &[u8]) -> bool {
 }
 
 /// "span passes the end of its memory".
-fn passes_end(start: u64, count: u64, end: u64) -> bool {
+pub(crate) fn passes_end(start: u64, count: u64, end: u64) -> bool {
     u128::from(start) + u128::from(count) > u128::from(end)
 }
 
 /// "store touches an entry of the active or pending list"; one of no bytes "touches
 /// no entry".
-fn touches_held_entry(record: &Record, first: u64, count: u64) -> bool {
+pub(crate) fn touches_held_entry(record: &Record, first: u64, count: u64) -> bool {
     let spans = record.taken_spans();
     let held = |place: u64| {
         let mut spans = spans.iter();

@@ -9,6 +9,7 @@
 pub mod calls;
 pub mod drawing;
 pub mod entries;
+pub mod feeds;
 pub mod packing;
 pub mod paper;
 pub mod record;
@@ -17,6 +18,7 @@ pub mod state;
 pub mod text;
 
 pub use calls::{make, post, run, store, window_write, Report};
+pub use feeds::{feed, Feed};
 pub use packing::{pack, unpack, Conversion};
 pub use paper::PaperBoard;
 pub use record::{Record, NAMES};

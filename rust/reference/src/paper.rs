@@ -3,6 +3,7 @@
 use crate::calls::put_bytes;
 use crate::drawing::Buffers;
 use crate::entries::{entry_at, register, ENTRY_BYTES};
+use crate::feeds::Feed;
 use crate::record::Record;
 use crate::state::{State, Step};
 use std::collections::VecDeque;
@@ -86,6 +87,13 @@ impl PaperBoard {
             let from = first.saturating_mul(ENTRY_BYTES as u64);
             put_bytes(&mut self.list, from, bytes);
         }
+    }
+
+    /// "In demand 3 an accepted piece counts as a store of the entries it completes,
+    /// whatever feed record it is given." (document 02, R-5)
+    pub fn feed(&mut self, feed: &Feed, piece: &[u8], done: bool) {
+        let (whole, _) = feed.cut(piece);
+        self.store(feed.next, &whole, done);
     }
 
     /// "A window write answered 0 goes to the queue's end".

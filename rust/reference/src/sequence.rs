@@ -2,6 +2,7 @@
 //! sequence, each held against the claim of demand 3.
 
 use crate::calls::{self, Report};
+use crate::feeds::{self, Feed};
 use crate::paper::PaperBoard;
 use crate::record::Record;
 
@@ -52,6 +53,14 @@ impl Sequence {
         self.check(report)
     }
 
+    /// Feeds a piece; the feed record is the caller's to keep.
+    pub fn feed(&mut self, feed: &mut Feed, piece: &[u8]) -> Report {
+        let given = *feed;
+        let report = feeds::feed(&mut self.record, feed, &mut self.list, piece);
+        self.paper.feed(&given, piece, report.number == 0);
+        self.check(report)
+    }
+
     pub fn window_write(&mut self, number: u64, offset: u64, bytes: &[u8]) -> Report {
         let buffer = if number == 1 {
             &mut self.virt
@@ -85,9 +94,10 @@ impl Sequence {
         self.fault.as_deref()
     }
 
-    /// "no call finds the board record malformed, and no run answers 9".
+    /// "no call finds the board record malformed, and no run answers 9". A feed answers 1
+    /// for its own record too.
     fn check(&mut self, report: Report) -> Report {
-        if report.number == 1 || report.number == 9 {
+        if self.record.malformed() || report.number == 9 {
             self.note(format!("answer {}", report.number));
         }
         let record = &self.record;

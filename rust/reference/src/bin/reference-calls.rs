@@ -3,6 +3,8 @@
 //! ```text
 //! make WIDTH HEIGHT ENTRIES
 //! store FIRST HEXBYTES...
+//! start ENTRY
+//! feed HEXBYTES...
 //! post START COUNT
 //! write NUMBER OFFSET HEXBYTES...
 //! run BUDGET
@@ -10,19 +12,20 @@
 //!
 //! The first call is make. It begins a fresh board with zeroed memories of the right
 //! sizes, and so does every later make; a refused make begins the 1 by 1 board with
-//! 1 entry. NUMBER is 0 for the display buffer and 1 for the virtual buffer. Numbers
-//! are decimal, or hexadecimal after 0x, below 2^64. HEXBYTES are pairs of
+//! 1 entry. Start begins a feed record, and feed gives it a piece; before any start
+//! it is the one that starts at entry 0. NUMBER is 0 for the display buffer and 1 for
+//! the virtual buffer. Numbers are decimal, or hexadecimal after 0x, below 2^64. HEXBYTES are pairs of
 //! hexadecimal digits, with or without blanks between the pairs; there may be none.
 //! Blank lines and lines starting with # are skipped.
 //!
 //! Each call prints its line number, its name, the answer, the place and the steps.
-//! The end prints the record, a field a line, both pictures in rows of hexadecimal
+//! The end prints the board record, a field a line, the feed record, both pictures in rows of hexadecimal
 //! bytes, and whether the paper board agreed after every call; status 1 where it did
 //! not. A bad line ends the sequence with a message on standard
 //! error and status 2.
 
 use reference::text::hex_rows;
-use reference::{Report, Sequence, NAMES};
+use reference::{Feed, Report, Sequence, NAMES};
 use std::io::{Read, Write};
 use std::process::ExitCode;
 
@@ -50,6 +53,7 @@ fn main() -> ExitCode {
 fn make_calls(input: &str) -> Result<(String, bool), (String, String)> {
     let mut text = String::new();
     let mut sequence: Option<Sequence> = None;
+    let mut feed = Feed::start(0);
     let mut fault = None;
     for (index, line) in input.lines().enumerate() {
         let words: Vec<&str> = line.split_whitespace().collect();
@@ -57,7 +61,7 @@ fn make_calls(input: &str) -> Result<(String, bool), (String, String)> {
             continue;
         }
         let number = index + 1;
-        match make_call(&words, &mut sequence) {
+        match make_call(&words, &mut sequence, &mut feed) {
             Ok(report) => text.push_str(&outcome(number, words[0], report)),
             Err(message) => return Err((text, format!("line {number}: {message}"))),
         }
@@ -67,7 +71,7 @@ fn make_calls(input: &str) -> Result<(String, bool), (String, String)> {
     let Some(sequence) = sequence else {
         return Err((text, "the input has no call".to_string()));
     };
-    text.push_str(&ending(&sequence));
+    text.push_str(&ending(&sequence, &feed));
     match &fault {
         None => text.push_str("paper board agrees\n"),
         Some(fault) => text.push_str(&format!("paper board disagrees: {fault}\n")),
@@ -76,7 +80,11 @@ fn make_calls(input: &str) -> Result<(String, bool), (String, String)> {
 }
 
 /// Makes the call of one line.
-fn make_call(words: &[&str], sequence: &mut Option<Sequence>) -> Result<Report, String> {
+fn make_call(
+    words: &[&str],
+    sequence: &mut Option<Sequence>,
+    feed: &mut Feed,
+) -> Result<Report, String> {
     let (call, arguments) = (words[0], &words[1..]);
     if call == "make" {
         let ([width, height, entries], []) = numbers(call, arguments)? else {
@@ -86,7 +94,7 @@ fn make_call(words: &[&str], sequence: &mut Option<Sequence>) -> Result<Report, 
         *sequence = Some(made);
         return Ok(report);
     }
-    if !["store", "post", "write", "run"].contains(&call) {
+    if !["store", "start", "feed", "post", "write", "run"].contains(&call) {
         return Err(format!("no call is named {call:?}"));
     }
     let board = sequence.as_mut().ok_or("the first call is make")?;
@@ -95,6 +103,14 @@ fn make_call(words: &[&str], sequence: &mut Option<Sequence>) -> Result<Report, 
             let ([first], bytes) = numbers(call, arguments)?;
             Ok(board.store(first, &hex_bytes(bytes)?))
         }
+        "start" => {
+            let ([entry], []) = numbers(call, arguments)? else {
+                return Err("start takes one number: entry".to_string());
+            };
+            *feed = Feed::start(entry);
+            Ok(Report::plain(0))
+        }
+        "feed" => Ok(board.feed(feed, &hex_bytes(arguments)?)),
         "write" => {
             let ([number, offset], bytes) = numbers(call, arguments)?;
             Ok(board.window_write(number, offset, &hex_bytes(bytes)?))
@@ -157,13 +173,17 @@ fn outcome(line: usize, call: &str, report: Report) -> String {
     format!("{line} {call} answer {number} place {place} steps {steps}\n")
 }
 
-/// The record and both pictures.
-fn ending(sequence: &Sequence) -> String {
+/// The records and both pictures.
+fn ending(sequence: &Sequence, feed: &Feed) -> String {
     let record = &sequence.record;
     let mut text = "record\n".to_string();
     for (name, word) in NAMES.iter().zip(record.words()) {
         text.push_str(&format!("{name} {word}\n"));
     }
+    let Feed { next, held, count } = feed;
+    text.push_str(&format!(
+        "feed next {next} held {held:02X?} count {count}\n"
+    ));
     text.push_str("display\n");
     text.push_str(&hex_rows(&sequence.display, record.width));
     text.push_str("virtual\n");

@@ -1,7 +1,7 @@
 //! The claim of demand 3 over random sequences of calls, and that no call panics.
 
 use crate::common::*;
-use reference::{make, post, run, store, window_write, Record, Sequence};
+use reference::{feed, make, post, run, store, window_write, Feed, Record, Sequence};
 
 /// A small generator of numbers (xorshift).
 struct Random(u64);
@@ -64,9 +64,9 @@ impl Random {
     }
 }
 
-/// One random call; whether it was done.
-fn call(random: &mut Random, board: &mut Sequence) -> bool {
-    let report = match random.below(8) {
+/// One random call; whether it was done. The feed record is kept, or any is given.
+fn call(random: &mut Random, board: &mut Sequence, line: &mut Feed) -> bool {
+    let report = match random.below(10) {
         0 | 1 => {
             let count = random.below(4) as usize;
             let bytes: Vec<u8> = (0..count).flat_map(|_| random.entry()).collect();
@@ -77,6 +77,18 @@ fn call(random: &mut Random, board: &mut Sequence) -> bool {
             board.window_write(random.below(3), random.below(36), &bytes)
         }
         3 | 4 => board.post(random.below(15), random.below(5)),
+        5 | 6 => {
+            if random.below(6) == 0 {
+                *line = any_feed(random);
+            }
+            let entry = random.entry();
+            let from = (line.count as usize).min(4);
+            let bytes = [&entry[from..], &random.entry()].concat();
+            board.feed(
+                line,
+                &bytes[..random.below(bytes.len() as u64 + 1) as usize],
+            )
+        }
         _ => {
             let budget = random.below(40);
             board.run(budget)
@@ -91,9 +103,10 @@ fn random_sequences_agree_with_the_paper_board() {
     let (mut done, mut calls) = (0, 0);
     for _ in 0..400 {
         let mut board = board(8, 4, 16);
+        let mut line = Feed::start(random.below(17));
         for _ in 0..200 {
             calls += 1;
-            done += u32::from(call(&mut random, &mut board));
+            done += u32::from(call(&mut random, &mut board, &mut line));
             assert_eq!(board.fault(), None);
         }
     }
@@ -140,6 +153,7 @@ fn no_call_panics() {
         make(first, second, random.wide());
         post(&mut record, &list, first, second);
         store(&mut record, &mut list, first, &bytes);
+        feed(&mut record, &mut any_feed(&mut random), &mut list, &bytes);
         window_write(&mut record, random.below(3), first, &bytes, &mut display);
         run(
             &mut record,
@@ -149,6 +163,15 @@ fn no_call_panics() {
             &mut virt,
         );
     }
+}
+
+/// A feed record, good or bad.
+fn any_feed(random: &mut Random) -> Feed {
+    let mut feed = Feed::start(random.wide());
+    feed.count = random.pick(&[0, 1, 2, 3, 4, 5, u32::MAX]);
+    let used = random.below(5) as usize;
+    feed.held[..used].fill(1);
+    feed
 }
 
 /// A board at work with a few of its words changed to any value.

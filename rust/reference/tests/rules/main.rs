@@ -4,6 +4,7 @@
 mod boards;
 mod claim;
 mod common;
+mod feeds;
 mod grounds;
 mod malformed;
 mod packing;
