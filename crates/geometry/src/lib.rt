@@ -1,5 +1,7 @@
 // Where pixels lie: coordinates, the clip rectangle, the place of a pixel in its buffer, and the pixels that a line and
 // a blit visit (document 01, Entry layout and Pixels).
+mod visible;
+
 ghost use mathlib.Core.Path.{_≡_};
 ghost use Prim.Native.Nat.{_<_, _≤_};
 ghost use lib.Dec.{eqb};
@@ -9,6 +11,11 @@ ghost use Rattle.geometry.specs.Line.{distance, stepsOf, lineCount, near
 ghost use Rattle.geometry.specs.Blit.{blitCount, blitCell, away, cellVisit};
 use numbers::max;
 use numbers::min;
+pub use visible::Part;
+pub use visible::Range;
+pub use visible::visible_count;
+pub use visible::visible_index;
+pub use visible::visible_part;
 
 // Coordinates are held 98,304 up: this is the coordinate 0.
 pub const ORIGIN: usize = 98304;
