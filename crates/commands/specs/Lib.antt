@@ -2,4 +2,5 @@ pub mod Visits
 pub mod Steps
 pub mod Record
 pub mod Wholes
+pub mod Shown
 pub mod Examples

@@ -92,7 +92,12 @@ filtered-map p f [] = refl
 filtered-map p f (x ∷ l) =
     by-cases (p (f x)) (λ t. rw (t, filtered-map p f l)) (λ t. rw (t, filtered-map p f l))
 
--- two tests that agree on what is tested
+-- two tests that agree, on everything and on what is tested
+pub filtered-same : {A : Type 0} (p q : A → Bool) → ((x : A) → p x ≡ q x) → (l : List A) → filtered p l ≡ filtered q l
+unfolding filtered
+filtered-same p q h [] = refl
+filtered-same p q h (x ∷ l) = ap₂ (λ t r. cond t (x ∷ r) r) (h x) (filtered-same p q h l)
+
 pub filtered-agree : (p q : ℕ → Bool) (n : ℕ) → ((k : ℕ) → k < n → p k ≡ q k) → filtered p (below n) ≡ filtered q (below n)
 unfolding numbers filtered
 filtered-agree p q zero h = refl
