@@ -1,4 +1,4 @@
--- The steps of what is under way and of entries after it: a step has one fewer left.
+-- The steps of what is under way and of entries after it: a step has one fewer left, and leads to the same end.
 -- Assumes nothing.
 use mathlib.Core.Path.{_≡_, ap, sym, _∙_}
 use mathlib.Core.Bool.{true, false, cond}
@@ -12,7 +12,7 @@ use Rattle.geometry.specs.declared.Extent.{Extent}
 use Rattle.entries.specs.declared.decoding.Entry.{Entry}
 use Rattle.commands.specs.Visits.{Rule, countBy}
 use Rattle.commands.specs.Steps.{Scene, advancedBy, visitBy, visitsBy, takenBy}
-use Rattle.commands.specs.Wholes.{pixelsLeft, finishedBy, stepsBy}
+use Rattle.commands.specs.Wholes.{pixelsLeft, finishedBy, doneBy, stepsBy}
 use Rattle.commands.specs.declared.Engine.{Engine}
 use Rattle.commands.proofs.Visiting.{visits-first, visits-none}
 
@@ -54,6 +54,12 @@ module _ (rule : Rule) (extent : Extent) (s : Scene) (u : s .engine .«under_way
       one-fewer : (p q r : ℕ) → p ≡ 1 + q → p + 1 + r ≡ 1 + (q + 1 + r)
       one-fewer p q r h = omega arith
 
+  -- and they leave the same
+  pub visit-done : (es : List Entry) → doneBy rule extent s es ≡ doneBy rule extent (visitBy rule extent s) es
+  unfolding doneBy
+  visit-done [] = visit-finished
+  visit-done (e ∷ es) = ap (λ t. doneBy rule extent (takenBy rule extent t e) es) visit-finished
+
 -- an entry taken, and nothing left
 module _ (rule : Rule) (extent : Extent) (s : Scene) (u : s .engine .«under_way» ≡ false) where
   pub take-steps : (e : Entry) (es : List Entry) → stepsBy rule extent s (e ∷ es) ≡ 1 + stepsBy rule extent (takenBy rule extent s e) es
@@ -65,3 +71,11 @@ module _ (rule : Rule) (extent : Extent) (s : Scene) (u : s .engine .«under_way
   pub none-left : stepsBy rule extent s [] ≡ 0
   unfolding stepsBy
   none-left = rest-pixels rule extent (s .engine) u
+
+  pub take-done : (e : Entry) (es : List Entry) → doneBy rule extent s (e ∷ es) ≡ doneBy rule extent (takenBy rule extent s e) es
+  unfolding doneBy
+  take-done e es = ap (λ t. doneBy rule extent (takenBy rule extent t e) es) (rest-finished rule extent s u)
+
+  pub none-done : doneBy rule extent s [] ≡ s
+  unfolding doneBy
+  none-done = rest-finished rule extent s u

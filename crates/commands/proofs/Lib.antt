@@ -7,4 +7,5 @@ pub mod Visiting
 pub mod Sound
 pub mod Counts
 pub mod Unchanged
+pub mod Lists
 pub mod Examples
