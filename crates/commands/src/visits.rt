@@ -18,6 +18,7 @@ use geometry::place_of;
 use geometry::rect_of;
 use geometry::visible_count;
 use geometry::visible_index;
+use geometry::visible_is_empty;
 use geometry::window_of;
 
 impl Engine {
@@ -61,7 +62,7 @@ impl Engine {
         let g = self.registers;
         let c = command_of(g.cmd);
         if c.is_blit() {
-            return visible_count(g.xy1, g.xy2, g.xy3, self.window(extent)) == 0;
+            return visible_is_empty(g.xy1, g.xy2, g.xy3, self.window(extent));
         }
         let line = c.is_line();
         let start = self.line_start();

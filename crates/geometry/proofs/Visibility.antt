@@ -1,26 +1,26 @@
 -- The visible part of a blit has the blit's cells less the hidden ones, in order, and fits the buffer.
 -- Assumes nothing.
 use mathlib.Core.Path.{_≡_, refl, ap, ap₂, sym, _∙_}
-use mathlib.Core.Bool.{Bool, true, false}
+use mathlib.Core.Bool.{Bool, true, false, _&&_}
 use mathlib.Core.List.{List, [], _++_, map, map-map, append-nil}
 use Prim.Native.Nat.{ℕ, zero, suc, _+_, _-_, _*_, _/_, _%_, _≤_, _<_, min}
-use native.Mathlib.Nat.{mul-suc, mul-zero, mul-le-mul, mul-le-mul-left, mul-add-div, mul-add-mod-self-left, mod-eq-of-lt, div-eq-of-lt}
+use native.Mathlib.Nat.{mul-suc, mul-zero, mul-comm, mul-le-mul, mul-le-mul-left, mul-add-div, mul-add-mod-self-left, mod-eq-of-lt, div-eq-of-lt}
 use native.Mathlib.Omega.{arith}
-use borrow.Author.Tests.{leb-true, leb-false, lt-ltb, le-ltb}
-use lib.Dec.{leb, ltb}
+use borrow.Author.Tests.{eqb-true, eqb-false, eq-eqb, ne-eqb, leb-true, leb-false, lt-ltb, le-ltb}
+use lib.Dec.{eqb, leb, ltb}
 use Rattle.lemmas.specs.Numbers.{numbers, below, filtered}
-use Rattle.lemmas.proofs.Booleans.{by-cases}
+use Rattle.lemmas.proofs.Booleans.{by-cases, and-left, and-right}
 use Rattle.lemmas.proofs.Numbers.{map-agree, map-numbers, map-append, numbers-join, filtered-append, filtered-map, filtered-agree, filtered-none, filtered-span}
 use Rattle.geometry.specs.Coordinates.{pointOf}
 use Rattle.geometry.specs.Clip.{windowOf, inWindow}
 use Rattle.geometry.specs.Blit.{widthOf, heightOf, blitCount, bottomToTop, rightToLeft, away, blitCell, blitPoint}
-use Rattle.geometry.specs.Visible.{cellShows, visibleRange, lengthOf, visiblePart, cellCount, indexIn, visibleIndex, visibleCell, IndexFits, Positive, VisibleInOrder, VisibleFits, HugeClear, UpAndLeft, NothingVisible}
+use Rattle.geometry.specs.Visible.{cellShows, visibleRange, lengthOf, visiblePart, cellCount, showsWhole, indexIn, visibleIndex, visibleCell, IndexFits, Positive, VisibleInOrder, VisibleFits, HugeClear, UpAndLeft, NothingVisible}
 use Rattle.geometry.specs.declared.Extent.{Extent}
 use Rattle.geometry.specs.declared.Point.{Point}
 use Rattle.geometry.specs.declared.Window.{Window}
 use Rattle.geometry.specs.declared.visible.Range.{Range}
 use Rattle.geometry.specs.declared.visible.Part.{Part}
-use Rattle.geometry.proofs.Blits.{column-lt, row-lt, cell-at}
+use Rattle.geometry.proofs.Blits.{factor-pos, column-lt, row-lt, cell-at}
 use Rattle.geometry.proofs.Windows.{shown-of, shown-by}
 
 -- visit j of row r
@@ -271,6 +271,65 @@ visible-fits extent clip a b corner size direction =
     let across = range-fits (rightToLeft direction) (corner .x) (w .left) (w .right) (widthOf size) in
     let down = range-fits (bottomToTop direction) (corner .y) (w .top) (w .bottom) (heightOf size) in
     mul-le-mul (omega (arith, across, most .0)) (omega (arith, down, most .1))
+
+-- a blit that shows whole
+module _ (corner : Point) (size direction : ℕ) (w : Window) where
+  whole-range : (c low high n : ℕ) → low ≤ c → c + n ≤ high → lengthOf (visibleRange false c low high n) ≡ n
+  unfolding visibleRange
+  whole-range c low high n a b = omega arith
+
+  pub whole-count : showsWhole corner size direction w ≡ true → blitCount size ≡ cellCount (visiblePart corner size direction w)
+  whole-count h =
+      let t0 = eqb direction 0 in
+      let t1 = leb (w .left) (corner .x) in
+      let t2 = leb (corner .x + widthOf size) (w .right) in
+      let t3 = leb (w .top) (corner .y) in
+      let t4 = leb (corner .y + heightOf size) (w .bottom) in
+      let h3 = and-left (t0 && t1 && t2 && t3) t4 h in
+      let h2 = and-left (t0 && t1 && t2) t3 h3 in
+      let h1 = and-left (t0 && t1) t2 h2 in
+      let across =
+      whole-range (corner .x) (w .left) (w .right) (widthOf size) (leb-true (w .left) (corner .x) (and-right t0 t1 h1))
+      (leb-true (corner .x + widthOf size) (w .right) (and-right (t0 && t1) t2 h2)) in
+      let down =
+      whole-range (corner .y) (w .top) (w .bottom) (heightOf size) (leb-true (w .top) (corner .y) (and-right (t0 && t1 && t2) t3 h3))
+      (leb-true (corner .y + heightOf size) (w .bottom) (and-right (t0 && t1 && t2 && t3) t4 h)) in
+      sym (ap₂ _*_ across down)
+      ∙ ap (λ d. cellCount (visiblePart corner size d w)) (sym (eqb-true direction 0 (and-left t0 t1 h1)))
+
+-- a blit whose corner shows
+corner-range : (back : Bool) (c low high n : ℕ) → low ≤ c → c < high → 0 < n → 0 < lengthOf (visibleRange back c low high n)
+unfolding visibleRange
+corner-range true c low high n a b s = omega arith
+corner-range false c low high n a b s = omega arith
+
+range-most : (back : Bool) (c low high n : ℕ) → lengthOf (visibleRange back c low high n) ≤ n
+unfolding visibleRange
+range-most true c low high n = omega arith
+range-most false c low high n = omega arith
+
+pub corner-shows : (corner : Point) (size direction : ℕ) (w : Window) → inWindow w corner ≡ true
+    → eqb (blitCount size) 0 ≡ eqb (cellCount (visiblePart corner size direction w)) 0
+corner-shows corner size direction w h =
+    let s = shown-of w corner h in
+    let width = widthOf size in
+    let height = heightOf size in
+    let back = rightToLeft direction in
+    let up = bottomToTop direction in
+    let n = cellCount (visiblePart corner size direction w) in
+    by-cases (eqb (width * height) 0)
+    (λ t.
+    let most : n ≤ width * height =
+    mul-le-mul (range-most back (corner .x) (w .left) (w .right) width) (range-most up (corner .y) (w .top) (w .bottom) height) in
+    t ∙ sym (eq-eqb n 0 (omega (arith, most, eqb-true (width * height) 0 t))))
+    (λ t.
+    let some : 0 < width * height = omega (arith, eqb-false (width * height) 0 t) in
+    let wide = factor-pos width height 0 some in
+    let tall = factor-pos height width 0 (omega (arith, some, mul-comm width height)) in
+    let least : 1 * 1 ≤ n =
+    mul-le-mul (corner-range back (corner .x) (w .left) (w .right) width (s .from-left) (s .to-right) wide)
+    (corner-range up (corner .y) (w .top) (w .bottom) height (s .from-top) (s .to-bottom) tall) in
+    t ∙ sym (ne-eqb n 0 (λ z. omega (arith, least, z))))
 
 -- Sums and products of the code fit.
 module _ (corner : Point) (size direction : ℕ) (w : Window) (p : Part) (small : size < 4294967296) (found : p ≡ visiblePart corner size direction w) where

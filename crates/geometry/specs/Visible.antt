@@ -1,10 +1,10 @@
 -- The part of a blit that clip and buffer let through (02, R-6): "only destination pixels inside the buffer and, with CLIP,
 -- inside the clip, in the same order as before".
 use mathlib.Core.Path.{_≡_}
-use mathlib.Core.Bool.{Bool, true, false, cond}
+use mathlib.Core.Bool.{Bool, true, false, cond, _&&_}
 use mathlib.Core.List.{List, [], _∷_, map}
 use Prim.Native.Nat.{ℕ, _+_, _-_, _*_, _/_, _%_, _≤_, _<_, min}
-use lib.Dec.{ltb}
+use lib.Dec.{eqb, leb, ltb}
 use Rattle.lemmas.specs.Numbers.{below, filtered}
 use Rattle.geometry.specs.Coordinates.{pointOf}
 use Rattle.geometry.specs.Clip.{windowOf, inWindow}
@@ -44,6 +44,15 @@ cellCount p = lengthOf (p .columns) * lengthOf (p .rows)
 
 abbrev pub visibleCount : Point → ℕ → ℕ → Window → ℕ
 visibleCount corner size direction w = cellCount (visiblePart corner size direction w)
+
+-- Whether a blit down and to the right of its corner shows whole.
+abbrev pub showsWhole : Point → ℕ → ℕ → Window → Bool
+showsWhole corner size direction w =
+    eqb direction 0
+    && leb (w .left) (corner .x)
+    && leb (corner .x + widthOf size) (w .right)
+    && leb (w .top) (corner .y)
+    && leb (corner .y + heightOf size) (w .bottom)
 
 -- Visible cell k is at column k mod columns of row k div columns of the visible part: which of all cells of the blit it is.
 abbrev pub indexIn : ℕ → Part → ℕ → ℕ

@@ -1,8 +1,9 @@
 // The part of a blit that a window lets through: some of its columns in some of its rows (document 02, R-6).
 ghost use mathlib.Core.Path.{_≡_};
 ghost use Prim.Native.Nat.{_+_, _*_, _/_, _%_, _<_};
+ghost use lib.Dec.{eqb};
 ghost use Rattle.geometry.specs.Coordinates.{pointOf};
-ghost use Rattle.geometry.specs.Visible.{visibleRange, visiblePart, visibleCount, visibleIndex, IndexFits};
+ghost use Rattle.geometry.specs.Visible.{visibleRange, visiblePart, showsWhole, visibleCount, visibleIndex, IndexFits};
 use crate::Window;
 use crate::blit_count;
 use crate::point_of;
@@ -52,14 +53,41 @@ pub fn visible_part(corner: u32, size: u32, direction: u32, window: Window) -> P
     }
 }
 
+// Whether a blit down and to the right of its corner shows whole, as most do.
+fn shows_whole(corner: u32, size: u32, direction: u32, window: Window) -> bool
+    ensures { λ r. ⌜ r ≡ showsWhole (pointOf corner) size direction window ⌝ }
+{
+    let c = point_of(corner);
+    let width = (size / 65536) as usize;
+    let height = (size % 65536) as usize;
+    (direction == 0)
+        & (window.left <= c.x)
+        & (c.x + width <= window.right)
+        & (window.top <= c.y)
+        & (c.y + height <= window.bottom)
+}
+
 // How many pixels of a blit are visible.
 pub fn visible_count(corner: u32, size: u32, direction: u32, window: Window) -> usize
     ensures { λ r. ⌜ r ≡ visibleCount (pointOf corner) size direction window ⌝ }
 {
+    if shows_whole(corner, size, direction, window) {
+        return blit_count(size);
+    }
     let part = visible_part(corner, size, direction, window);
     let across = part.columns;
     let down = part.rows;
     saturating_sub(across.past, across.from) * saturating_sub(down.past, down.from)
+}
+
+// Whether no pixel of a blit is visible.
+pub fn visible_is_empty(corner: u32, size: u32, direction: u32, window: Window) -> bool
+    ensures { λ r. ⌜ r ≡ eqb (visibleCount (pointOf corner) size direction window) 0 ⌝ }
+{
+    if window.contains(point_of(corner)) {
+        return blit_count(size) == 0;
+    }
+    visible_count(corner, size, direction, window) == 0
 }
 
 // The number of the cell k / columns rows below `row` and k % columns columns past `column`, in rows of `width`.

@@ -1,5 +1,5 @@
 -- By the kind of the decoded command: a blit has no pixel where its count is 0, a line where NLST leaves out its only one.
-use Rattle.commands.specs.Visits.{commandIn, countOf}
+use Rattle.commands.specs.Visits.{commandIn}
 use Rattle.entries.specs.Fields.{isBlit, isLine}
 use lib.Dec.{eqb}
 use mathlib.Core.Bool.{Bool, true, false}
@@ -22,15 +22,15 @@ is-blit-requires c κs = search needs
 window-requires : tie.Need-window-requires
 window-requires c κs = search needs
 
-visible-count-requires : tie.Need-visible-count-requires
-visible-count-requires c κs = search needs
+visible-is-empty-requires : tie.Need-visible-is-empty-requires
+visible-is-empty-requires c κs = search needs
 
 returns : tie.Need-returns
 returns c =
     let o = c .before .before in
     let s = o .before .before .before .before .args in
-    ap (λ n. eqb n 0) {y = countOf (s .extent) (s .self)}
-    (c .visible-count .ensures ∙ rw (c .before .window .ensures) (count-blit _ _ (blit (o .before) true (o .if1 .taken))))
+    c .visible-is-empty .ensures
+    ∙ rw (c .before .window .ensures) (ap (λ n. eqb n 0) (count-blit (s .extent) (s .self) (blit (o .before) true (o .if1 .taken))))
 
 is-line-requires : tie.Need-is-line-requires
 is-line-requires c κs = search needs
@@ -56,7 +56,7 @@ is-empty-spec =
     command-of-requires
     is-blit-requires
     window-requires
-    visible-count-requires
+    visible-is-empty-requires
     returns
     is-line-requires
     line-start-requires
