@@ -17,24 +17,34 @@ pub struct Blit {
 }
 
 impl Blit {
-    /// "BITBLT visits width x height pixels in rows. XY3 1 and 3 go bottom to top, 2
-    /// and 3 right to left; XY0 and XY1 are the corners of 003's table": how far each
-    /// pixel lies from the corner where the command begins, before R-6.
-    pub fn all(self) -> impl Iterator<Item = Point> {
-        let (width, height) = (i64::from(self.size.0), i64::from(self.size.1));
-        let direction = self.direction;
-        (0..height).flat_map(move |row| {
-            (0..width).map(move |column| Point {
-                x: if direction & 2 == 2 { -column } else { column },
-                y: if direction & 1 == 1 { -row } else { row },
-            })
-        })
+    /// "A blit is to visit only destination pixels inside the buffer and, with CLIP,
+    /// inside the clip, in the same order as before" (document 02, R-6), which is
+    /// "width x height pixels in rows": how far each visit lies from the corner.
+    pub fn visits(self) -> Vec<Point> {
+        let mut visits = Vec::new();
+        for row in 0..self.size.1 {
+            for column in 0..self.size.0 {
+                let offset = self.offset(column, row);
+                if self.shows(offset) {
+                    visits.push(offset);
+                }
+            }
+        }
+        visits
     }
 
-    /// "A blit is to visit only destination pixels inside the buffer and, with CLIP,
-    /// inside the clip, in the same order as before." (document 02, R-6)
-    pub fn visits(self) -> Vec<Point> {
-        self.all().filter(|&offset| self.shows(offset)).collect()
+    /// "XY3 1 and 3 go bottom to top, 2 and 3 right to left; XY0 and XY1 are the corners
+    /// of 003's table".
+    fn offset(&self, column: u32, row: u32) -> Point {
+        let (column, row) = (i64::from(column), i64::from(row));
+        Point {
+            x: if self.direction & 2 == 2 {
+                -column
+            } else {
+                column
+            },
+            y: if self.direction & 1 == 1 { -row } else { row },
+        }
     }
 
     /// Whether the destination pixel so far from the corner is inside.
@@ -58,7 +68,7 @@ impl Blit {
     }
 }
 
-const MOST_KEPT: usize = 16;
+const MOST_KEPT: usize = 32;
 
 thread_local! {
     /// The visits of the blits that were asked for last, the latest first.
