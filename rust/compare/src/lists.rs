@@ -94,10 +94,6 @@ pub fn list(random: &mut Random, size: Size, entries: usize) -> Vec<u8> {
     for _ in 0..entries {
         bytes.extend(legal_entry(random, size));
     }
-    if random.one_in(1_000) {
-        let line = crossing_line(random, size);
-        put_anywhere(random, &mut bytes, &line);
-    }
     if random.one_in(3) {
         let glyph = glyph(random, size);
         put_anywhere(random, &mut bytes, &glyph);
@@ -105,6 +101,10 @@ pub fn list(random: &mut Random, size: Size, entries: usize) -> Vec<u8> {
     if random.one_in(8) {
         let blit = hidden_blit(random, size);
         put_anywhere(random, &mut bytes, &blit);
+    }
+    if random.one_in(400) {
+        let line = crossing_line(random, size);
+        put_anywhere(random, &mut bytes, &line);
     }
     if random.one_in(8) {
         let entry = doubtful_entry(random, size);

@@ -24,8 +24,8 @@ pub const CUT: [Kind; 12] = [
     ("shows one column", |blit| blit.columns().len() == 1),
     ("has KEY", |blit| blit.has(flag::KEY)),
     ("reads outside its source", Hidden::reads_outside),
-    ("reads the other buffer", |blit| !blit.in_one_buffer()),
-    ("reads its own buffer", Hidden::in_one_buffer),
+    ("reads the other buffer", |blit| blit.reads(true)),
+    ("reads its own buffer", |blit| blit.reads(false)),
 ];
 
 /// The ends that have to be hidden under each XY3.
@@ -165,8 +165,10 @@ impl Hidden {
         buffer.holds(p)
     }
 
-    fn in_one_buffer(&self) -> bool {
-        !self.has(flag::SOLID) && self.has(flag::SOURCE) == self.has(flag::DESTINATION)
+    /// Reads a buffer: the other one, or its own.
+    fn reads(&self, other: bool) -> bool {
+        let between = self.has(flag::SOURCE) != self.has(flag::DESTINATION);
+        !self.has(flag::SOLID) && between == other
     }
 }
 
