@@ -6,6 +6,7 @@
 //! are wide, each pixel is worked out from its own number in the command, and the
 //! comments quote the sentences that the code follows.
 
+pub mod blits;
 pub mod calls;
 pub mod drawing;
 pub mod entries;
