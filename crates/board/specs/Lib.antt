@@ -4,5 +4,4 @@ pub mod Runs
 pub mod Left
 pub mod Stopped
 pub mod Calls
-pub mod Wholes
 pub mod Feeding

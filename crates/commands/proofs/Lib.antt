@@ -1,4 +1,3 @@
-pub mod Shown
 pub mod Tests
 pub mod Marks
 pub mod Bounds
@@ -6,6 +5,4 @@ pub mod Triggers
 pub mod Visiting
 pub mod Sound
 pub mod Counts
-pub mod Unchanged
-pub mod Lists
 pub mod Examples

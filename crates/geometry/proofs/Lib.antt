@@ -5,6 +5,4 @@ pub mod Windows
 pub mod Lines
 pub mod LineRule
 pub mod Blits
-pub mod Visibility
-pub mod Stretches
 pub mod Examples

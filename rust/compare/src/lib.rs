@@ -18,4 +18,3 @@ pub mod sides;
 pub mod spoil;
 pub mod stipples;
 pub mod tally;
-pub mod visits;

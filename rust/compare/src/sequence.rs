@@ -162,10 +162,7 @@ impl Sequence<'_> {
                 difference::from_paper(&self.engine, &self.reference.record, paper)?;
             }
         }
-        let Reference {
-            record, memories, ..
-        } = &self.reference;
-        self.tally.call(call, &report, record, &memories.list);
+        self.tally.call(call, &report, &self.reference.record);
         if report.number == 0 {
             self.done();
         }

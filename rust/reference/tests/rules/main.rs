@@ -11,4 +11,3 @@ mod packing;
 mod paper;
 mod pixels;
 mod stipples;
-mod visits;
