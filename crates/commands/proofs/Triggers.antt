@@ -11,8 +11,8 @@ use Rattle.lemmas.proofs.Booleans.{by-cases, and-right}
 use Rattle.geometry.specs.declared.Extent.{Extent}
 use Rattle.entries.specs.Fields.{draws, isTrigger, triggers}
 use Rattle.registers.specs.declared.dashes.Pattern.{Pattern}
-use Rattle.commands.specs.Visits.{commandIn, countOf}
-use Rattle.commands.specs.Steps.{patternSet, finishes, triggeredOf}
+use Rattle.commands.specs.Visits.{commandIn, Rule, shows, countBy, countOf}
+use Rattle.commands.specs.Steps.{patternSet, finishes, triggeredBy, triggeredOf}
 use Rattle.commands.specs.declared.Engine.{Engine}
 use Rattle.commands.proofs.Bounds.{count-same}
 use Rattle.commands.proofs.Tests.{pixels-draw}
@@ -45,7 +45,7 @@ module _ (extent : Extent) (number : ℕ) (f : Engine) (trigger : isTrigger numb
       (λ t. t ∙ sym (ap₂ _&&_ (ap₂ _&&_ trigger (pixels-draw extent f t)) t))
       (λ t. t ∙ sym (ap (λ s. triggers number (commandIn f) && s) t ∙ and-false (triggers number (commandIn f))))
 
-  ends : (d && empty) ≡ finishes extent number f
+  ends : (d && empty) ≡ finishes shows extent number f
   ends = ap (λ t. t && empty) (sym triggering) ∙ ap (λ t. triggers number (commandIn f) && t) none
 
   pub triggers-command : (b : Bool) → (d && empty) ≡ b
@@ -66,10 +66,10 @@ unfinished n c h =
     let some = ltb-true 0 c (and-right n (ltb 0 c) h) in
     ap (λ t. n && t) (ne-eqb c 0 (λ e. omega arith)) ∙ and-false n
 
-module _ (extent : Extent) (number : ℕ) (f : Engine) (h : (triggers number (commandIn f) && ltb 0 (countOf extent f)) ≡ true) where
-  triggered-last : triggeredOf extent number f .last ≡ f .last
+module _ (rule : Rule) (extent : Extent) (number : ℕ) (f : Engine) (h : (triggers number (commandIn f) && ltb 0 (countBy rule extent f)) ≡ true) where
+  pub triggered-last : triggeredBy rule extent number f .last ≡ f .last
   triggered-last =
-      ap (λ t. cond t (f .registers .xy1) (f .last)) (unfinished (triggers number (commandIn f)) (countOf extent f) h)
+      ap (λ t. cond t (f .registers .xy1) (f .last)) (unfinished (triggers number (commandIn f)) (countBy rule extent f) h)
 
-  pub triggered-count : countOf extent (triggeredOf extent number f) ≡ countOf extent f
-  triggered-count = count-same extent (triggeredOf extent number f) f refl triggered-last
+  pub triggered-count : countBy rule extent (triggeredBy rule extent number f) ≡ countBy rule extent f
+  triggered-count = count-same rule extent (triggeredBy rule extent number f) f refl triggered-last

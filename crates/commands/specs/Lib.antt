@@ -2,4 +2,6 @@ pub mod Visits
 pub mod Steps
 pub mod Record
 pub mod Wholes
+pub mod Lists
+pub mod Shown
 pub mod Examples

@@ -1,21 +1,25 @@
 // What the command in CMD visits.
 ghost use mathlib.Core.Path.{_≡_};
 ghost use lib.Dec.{eqb};
-ghost use Rattle.commands.specs.Visits.{lineStart, countOf, cellAt, positionOf, targetFrom};
+ghost use Rattle.commands.specs.Visits.{lineStart, windowIn, countOf, cellAt, positionOf, targetFrom};
 use crate::Engine;
 use entries::command_of;
 use geometry::Cell;
 use geometry::Extent;
 use geometry::Place;
 use geometry::Visit;
+use geometry::Window;
 use geometry::blit_cell;
-use geometry::blit_count;
 use geometry::cell_visit;
 use geometry::line_count;
 use geometry::line_is_empty;
 use geometry::line_visit;
 use geometry::place_of;
 use geometry::rect_of;
+use geometry::visible_count;
+use geometry::visible_index;
+use geometry::visible_is_empty;
+use geometry::window_of;
 
 impl Engine {
     // Where the line in CMD starts.
@@ -27,6 +31,15 @@ impl Engine {
         if c.is_polyline() { self.last } else { g.xy0 }
     }
 
+    // The part of a buffer that clip and buffer let through.
+    pub fn window(self, extent: Extent) -> Window
+        ensures { λ r. ⌜ r ≡ windowIn extent (self .registers) ⌝ }
+    {
+        let g = self.registers;
+        let c = command_of(g.cmd);
+        window_of(extent, c.clip, g.clptl, g.clpbr)
+    }
+
     // How many pixels the command in CMD visits.
     pub fn count(self, extent: Extent) -> usize
         ensures { λ r. ⌜ r ≡ countOf extent self ⌝ }
@@ -34,7 +47,7 @@ impl Engine {
         let g = self.registers;
         let c = command_of(g.cmd);
         if c.is_blit() {
-            return blit_count(g.xy2);
+            return visible_count(g.xy1, g.xy2, g.xy3, self.window(extent));
         }
         if c.is_line() {
             return line_count(self.line_start(), g.xy1, c.nlst);
@@ -49,7 +62,7 @@ impl Engine {
         let g = self.registers;
         let c = command_of(g.cmd);
         if c.is_blit() {
-            return blit_count(g.xy2) == 0;
+            return visible_is_empty(g.xy1, g.xy2, g.xy3, self.window(extent));
         }
         let line = c.is_line();
         let start = self.line_start();
@@ -63,7 +76,8 @@ impl Engine {
         let g = self.registers;
         let c = command_of(g.cmd);
         if c.is_blit() {
-            return blit_cell(g.xy2, k);
+            let i = visible_index(g.xy1, g.xy2, g.xy3, self.window(extent), k);
+            return blit_cell(g.xy2, i);
         }
         Cell::Past
     }

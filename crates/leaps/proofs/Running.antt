@@ -17,8 +17,8 @@ use Rattle.lists.specs.declared.cursors.Cursor.{Cursor}
 use Rattle.lists.specs.declared.cursors.Next.{Next}
 use Rattle.lists.specs.declared.cursors.Next.the-variants.{Ended, Visit, Take, Broken}
 use Rattle.lists.proofs.Fetches.{next-visit, next-over, broken-going, chosen}
-use Rattle.commands.specs.Visits.{countOf}
-use Rattle.commands.specs.Steps.{Scene, scene, advancedOf, visitOf, visitsOf, enteredOf, takenOf}
+use Rattle.commands.specs.Visits.{shows, countOf}
+use Rattle.commands.specs.Steps.{Scene, scene, advancedBy, advancedOf, visitBy, visitOf, visitsBy, visitsOf, enteredOf, takenOf}
 use Rattle.commands.specs.declared.Engine.{Engine}
 use Rattle.commands.proofs.Bounds.{count-same}
 use Rattle.leaps.specs.declared.list_runs.Progress.{Progress}
@@ -47,17 +47,17 @@ record On (e f : Engine) (k : ℕ) : Type 0 where
   last-same : f .last ≡ e .last
 
 advance-on : (extent : Extent) (f : Engine) → f .visited + 1 < countOf extent f → On f (advancedOf extent f) 1
-unfolding advancedOf
+unfolding advancedBy
 advance-on extent f h = rw (lt-ltb (f .visited + 1) (countOf extent f) h) (record { under = refl; at = refl; registers-same = refl; last-same = refl })
 
 visits-on : (extent : Extent) (s : Scene) (k : ℕ) → s .engine .«under_way» ≡ true → s .engine .visited + k < countOf extent (s .engine)
     → On (s .engine) (visitsOf k extent s .engine) k
-unfolding visitsOf visitOf
+unfolding visitsBy visitBy
 visits-on extent s zero u h = record { under = u; at = omega arith; registers-same = refl; last-same = refl }
 visits-on extent s (suc k) u h =
     let f = visitsOf k extent s .engine in
     let on = visits-on extent s k u (omega arith) in
-    let same : countOf extent f ≡ countOf extent (s .engine) = count-same extent f (s .engine) (on .registers-same) (on .last-same) in
+    let same : countOf extent f ≡ countOf extent (s .engine) = count-same shows extent f (s .engine) (on .registers-same) (on .last-same) in
     let next = advance-on extent f (omega (arith, on .at, same)) in
     record {
       under = next .under;
@@ -69,7 +69,7 @@ visits-on extent s (suc k) u h =
 -- visits within a command, or the first one
 still-busy : (extent : Extent) (s : Scene) (j : ℕ) → s .engine .«under_way» ≡ true → j < max 1 (countOf extent (s .engine) - s .engine .visited)
     → visitsOf j extent s .engine .«under_way» ≡ true
-unfolding visitsOf
+unfolding visitsBy
 still-busy extent s zero u h = u
 still-busy extent s (suc j) u h = visits-on extent s (suc j) u (omega arith) .under
 
@@ -130,7 +130,7 @@ module _ (l : List ℕ) (extent : Extent) where
   -- k visits of the command under way
   visits-run : (k budget : ℕ) (c : Cursor) (s : Scene) → ((j : ℕ) → j < k → visitsOf j extent s .engine .«under_way» ≡ true)
       → from (budget + k) c s ≡ longer k (from budget c (visitsOf k extent s))
-  unfolding visitsOf
+  unfolding visitsBy
   visits-run zero budget c s busy =
       let e : budget + 0 ≡ budget = omega arith in
       ap (λ k. from k c s) e ∙ longer-none (from budget c s)

@@ -26,11 +26,16 @@ command-of-requires c κs = search needs
 is-blit-requires : tie.Need-is-blit-requires
 is-blit-requires c κs = search needs
 
-blit-count-requires : tie.Need-blit-count-requires
-blit-count-requires c κs = search needs
+window-requires : tie.Need-window-requires
+window-requires c κs = search needs
+
+visible-count-requires : tie.Need-visible-count-requires
+visible-count-requires c κs = search needs
 
 returns : tie.Need-returns
-returns c = c .blit-count .ensures ∙ count-blit _ _ (blit (c .before .before) true (c .before .if1 .taken))
+returns c =
+    let o = c .before .before in
+    c .visible-count .ensures ∙ rw (c .before .window .ensures) (count-blit _ _ (blit (o .before) true (o .if1 .taken)))
 
 is-line-requires : tie.Need-is-line-requires
 is-line-requires c κs = search needs
@@ -57,7 +62,8 @@ count-spec =
     (tie.spec
     command-of-requires
     is-blit-requires
-    blit-count-requires
+    window-requires
+    visible-count-requires
     returns
     is-line-requires
     line-start-requires

@@ -8,14 +8,6 @@ use Rattle.commands.proofs.Tests.{test-is, count-blit, empty-line}
 use borrow.Author.Needs.{needs}
 use Rattle.commands.proofs.Engine.is_empty.Statement.{statement}
 use Rattle.commands.proofs.Engine.is_empty.Tie as tie
-use Rattle.commands.proofs.Engine.is_empty.Reads as reads
-use Rattle.commands.proofs.Engine.is_empty.Lts as lts
-use Rattle.commands.proofs.Engine.line_start.Reads as line-start-reads
-use Rattle.entries.proofs.fields.Command.is_blit.Reads as is-blit-reads
-use Rattle.entries.proofs.fields.Command.is_line.Reads as is-line-reads
-use Rattle.entries.proofs.command_of.Reads as command-of-reads
-use Rattle.geometry.proofs.blit_count.Reads as blit-count-reads
-use Rattle.geometry.proofs.line_is_empty.Reads as line-is-empty-reads
 
 -- whether the command in CMD is a blit
 blit : (c : tie.After-is-blit) (b : Bool) → c .is-blit .result ≡ b → isBlit (commandIn (c .before .before .before .args .self)) ≡ b
@@ -27,11 +19,18 @@ command-of-requires c κs = search needs
 is-blit-requires : tie.Need-is-blit-requires
 is-blit-requires c κs = search needs
 
-blit-count-requires : tie.Need-blit-count-requires
-blit-count-requires c κs = search needs
+window-requires : tie.Need-window-requires
+window-requires c κs = search needs
+
+visible-is-empty-requires : tie.Need-visible-is-empty-requires
+visible-is-empty-requires c κs = search needs
 
 returns : tie.Need-returns
-returns c = ap (λ n. eqb n 0) (c .blit-count .ensures ∙ count-blit _ _ (blit (c .before .before) true (c .before .if1 .taken)))
+returns c =
+    let o = c .before .before in
+    let s = o .before .before .before .before .args in
+    c .visible-is-empty .ensures
+    ∙ rw (c .before .window .ensures) (ap (λ n. eqb n 0) (count-blit (s .extent) (s .self) (blit (o .before) true (o .if1 .taken))))
 
 is-line-requires : tie.Need-is-line-requires
 is-line-requires c κs = search needs
@@ -56,7 +55,8 @@ is-empty-spec =
     (tie.spec
     command-of-requires
     is-blit-requires
-    blit-count-requires
+    window-requires
+    visible-is-empty-requires
     returns
     is-line-requires
     line-start-requires

@@ -1,4 +1,4 @@
-use Rattle.commands.specs.Steps.{enteredOf}
+use Rattle.commands.specs.Steps.{enteredBy}
 use mathlib.Core.Path.{_∙_}
 use borrow.Author.Needs.{needs}
 use Rattle.commands.proofs.Engine.take.Statement.{statement}
@@ -11,7 +11,7 @@ triggered-requires : tie.Need-triggered-requires
 triggered-requires c κs = search needs
 
 returns : tie.Need-returns
-unfolding enteredOf
+unfolding enteredBy
 returns c = c .triggered .ensures ∙ rw (c .before .written .ensures)
 
 pub take-spec : {M : Type 1} → statement M
