@@ -11,11 +11,9 @@ ghost use Rattle.geometry.specs.Line.{distance, stepsOf, lineCount, near
 ghost use Rattle.geometry.specs.Blit.{blitCount, blitCell, away, cellVisit};
 use numbers::max;
 use numbers::min;
-pub use visible::Part;
 pub use visible::Range;
 pub use visible::visible_count;
 pub use visible::visible_index;
-pub use visible::visible_part;
 
 // Coordinates are held 98,304 up: this is the coordinate 0.
 pub const ORIGIN: usize = 98304;

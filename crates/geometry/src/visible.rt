@@ -38,7 +38,7 @@ fn visible_range(back: bool, c: usize, low: usize, high: usize, n: usize) -> Ran
 }
 
 // The visible part of a blit that starts at a corner of the destination rectangle.
-pub fn visible_part(corner: u32, size: u32, direction: u32, window: Window) -> Part
+fn visible_part(corner: u32, size: u32, direction: u32, window: Window) -> Part
     ensures { λ r. ⌜ r ≡ visiblePart (pointOf corner) size direction window ⌝ }
 {
     let c = point_of(corner);
