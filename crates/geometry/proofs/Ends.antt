@@ -1,4 +1,4 @@
--- A line from either end: E is the same number, and the coordinate nearest it one number.
+-- A line from either end: E is the same number, and which coordinate is nearest is asked of E alone.
 -- Assumes nothing.
 use mathlib.Core.Path.{_≡_}
 use Prim.Native.Nat.{ℕ, _-_, _≤_}

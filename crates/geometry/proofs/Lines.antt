@@ -1,5 +1,5 @@
 -- The coordinates of a line's pixels, in naturals: each is nearest the exact line, no other is, on the major axis it is
--- on the exact line, so that no two pixels are one, and the ends are A and B.
+-- on the exact line, so that no two pixels are the same, and the ends are A and B.
 -- Assumes nothing.
 use mathlib.Core.Path.{_≡_, refl, ap, sym, _∙_}
 use mathlib.Core.Bool.{Bool, true, false, _&&_}

@@ -9,11 +9,11 @@ use native.Mathlib.Omega.{arith}
 use lib.ListN.{getD, set}
 use Rattle.lemmas.specs.Turns.{inTurn}
 use Rattle.lemmas.specs.Sweeps.{sweep}
-use Rattle.lemmas.proofs.Turns.{Commute, turn-agree, turn-back, turn-twice}
+use Rattle.lemmas.proofs.Turns.{Commute, turn-back, turn-twice}
 use Rattle.lemmas.proofs.Sweeps.{sweep-agree, all-sweep}
 
 -- the byte at a place, changed by what stands there
-abbrev pub changed : (ℕ → ℕ) → ℕ → List ℕ → List ℕ
+abbrev changed : (ℕ → ℕ) → ℕ → List ℕ → List ℕ
 changed f i l = set l i (f (getD l i 0))
 
 changes-commute : (f g : ℕ → ℕ) (i j : ℕ) (l : List ℕ) → (i ≡ j → ⊥) → changed f i (changed g j l) ≡ changed g j (changed f i l)

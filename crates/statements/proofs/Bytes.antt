@@ -6,7 +6,7 @@ use lib.ListN.{getD}
 use Rattle.lemmas.proofs.Booleans.{of-either}
 use Rattle.lemmas.proofs.Sweeps.{set-all}
 use Rattle.raster.specs.Raster.{newByte}
-use Rattle.raster.proofs.Wide.{new-byte-lt}
+use Rattle.raster.proofs.Wide.{newByte-any-lt}
 use Rattle.geometry.specs.declared.Extent.{Extent}
 use Rattle.geometry.specs.declared.Place.{Place}
 use Rattle.geometry.specs.declared.Place.the-variants.{At, Outside}
@@ -26,7 +26,7 @@ AllBytes l = (k : ℕ) → getD l k 0 < 256
 inked-bytes : (e : Engine) (o : Source) (q : Place) (l : List ℕ) → AllBytes l → AllBytes (inked e o q l)
 inked-bytes e (Value v) (At i) l h =
     set-all (λ x. x < 256) l i (newByte (commandIn e .code) v (getD l i 0) (e .registers .mask))
-    (new-byte-lt (commandIn e .code) v (getD l i 0) (e .registers .mask) (code-small e) (h i)) h
+    (newByte-any-lt (commandIn e .code) v (getD l i 0) (e .registers .mask) (code-small e) (h i)) h
 inked-bytes e (Value v) Outside l h = h
 inked-bytes e Nothing q l h = h
 

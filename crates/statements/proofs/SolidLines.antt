@@ -31,10 +31,9 @@ use Rattle.geometry.proofs.Ends.{steps-turned, same-from-b}
 use Rattle.entries.specs.Fields.{commandOf}
 use Rattle.entries.specs.declared.decoding.Entry.{Entry}
 use Rattle.registers.specs.Registers.{writtenOf}
-use Rattle.registers.specs.declared.file.Registers.{Registers}
 use Rattle.strokes.specs.Strokes.{plotted, pixelsOf}
 use Rattle.strokes.proofs.Traced.{pixels-in-turn}
-use Rattle.commands.specs.Visits.{commandIn, lineStart, shows, countOf}
+use Rattle.commands.specs.Visits.{lineStart, shows, countOf}
 use Rattle.commands.specs.Steps.{Scene, visitsOf, withWord, enteredBy, takenOf}
 use Rattle.commands.specs.Wholes.{pixelsLeft, doneBy, doneOf}
 use Rattle.commands.specs.declared.Engine.{Engine}
@@ -46,7 +45,7 @@ use Rattle.leaps.proofs.Visiting.{sceneOn, visits-are}
 use Rattle.leaps.proofs.Strokes.{count-is, solidState, solid-strokes}
 use Rattle.board.specs.Steps.{Machine, sceneOf}
 use Rattle.board.proofs.Wholes.{posted-rest, posted-done}
-use Rattle.statements.specs.SolidLines.{SamePicture, SolidLine, Context, contextOf, drawnOf, SameFromEitherEnd, exclusiveOr, Bytes, TwiceRestores, writing, lineFrom, LineNext, SameInLists, TwiceInLists, Job, entriesOf, ranOn, Completed, SameWhenPosted, TwiceWhenPosted}
+use Rattle.statements.specs.SolidLines.{SamePicture, SolidLine, Context, contextOf, drawnOf, SameFromEitherEnd, exclusiveOr, TwiceRestores, writing, lineFrom, LineNext, SameInLists, TwiceInLists, Job, entriesOf, ranOn, Completed, SameWhenPosted, TwiceWhenPosted}
 use Rattle.statements.proofs.Bytes.{done-bytes}
 
 -- ---- the stroke of a line from A to B
@@ -62,12 +61,13 @@ pointAt a b k = linePoint (pointOf a) (pointOf b) k
 abbrev pixel : Extent → Context → ℕ → ℕ → ℕ → List ℕ → List ℕ
 pixel extent c a b k = plotted (extent .width) (windowIn extent c) (penIn c) (pointAt a b k)
 
-abbrev pixels : ℕ → ℕ → ℕ
-pixels a b = stepsOf (pointOf a) (pointOf b) + 1
+abbrev pixelCount : ℕ → ℕ → ℕ
+pixelCount a b = stepsOf (pointOf a) (pointOf b) + 1
 
 abbrev stroke : Extent → Context → ℕ → ℕ → List ℕ → List ℕ
-stroke extent c a b l = inTurn (pixel extent c a b) (pixels a b) l
+stroke extent c a b l = inTurn (pixel extent c a b) (pixelCount a b) l
 
+-- the pixels that are drawn are at places that are all different
 module _ (extent : Extent) (c : Context) (a b : ℕ) where
   abbrev place : ℕ → ℕ
   place k = placeIn (extent .width) (pointAt a b k)
@@ -82,48 +82,47 @@ module _ (extent : Extent) (c : Context) (a b : ℕ) where
       and-right (not (clip && not (inRect (rectOf (c .clptl) (c .clpbr)) p))) (inBuffer (extent .width) (extent .height) p)
       (sym (window-lets-through extent clip (c .clptl) (c .clpbr) p) ∙ h)
 
-  places-apart : (i j : ℕ) → i < pixels a b → j < pixels a b → visible i ≡ true → visible j ≡ true → place i ≡ place j → i ≡ j
+  places-apart : (i j : ℕ) → i < pixelCount a b → j < pixelCount a b → visible i ≡ true → visible j ≡ true → place i ≡ place j → i ≡ j
   places-apart i j h k s t e =
       points-differ (pointOf a) (pointOf b) i j (omega (arith, h)) (omega (arith, k))
       (places-differ extent (pointAt a b i) (pointAt a b j) (in-buffer i s) (in-buffer j t) e)
 
-  -- from the other end
-  stroke-turned : (l : List ℕ) → stroke extent c a b l ≡ stroke extent c b a l
-  unfolding plotted
-  stroke-turned l =
-      let n = pixels a b in
-      let same = steps-turned (pointOf a) (pointOf b) in
-      sym (either-order visible place (λ k. drawn (penIn c)) n places-apart l)
-      ∙ turn-agree (λ k. pixel extent c a b (n - suc k)) (pixel extent c b a) n l
-      (λ k h m.
-      let index : stepsOf (pointOf b) (pointOf a) - k ≡ n - suc k = from-end (stepsOf (pointOf b) (pointOf a)) (stepsOf (pointOf a) (pointOf b)) k same in
-      let from-b = same-from-b (pointOf b) (pointOf a) k (inside (stepsOf (pointOf b) (pointOf a)) (stepsOf (pointOf a) (pointOf b)) k same h) in
-      ap (λ p. plotted (extent .width) (windowIn extent c) (penIn c) p m) (sym (from-b ∙ ap (pointAt a b) index)))
-      ∙ ap (λ k. inTurn (pixel extent c b a) (k + 1) l) (sym same)
-    where
-      from-end : (m n k : ℕ) → m ≡ n → m - k ≡ n + 1 - suc k
-      from-end m n k e = omega arith
+-- from the other end
+stroke-turned : (extent : Extent) (c : Context) (a b : ℕ) (l : List ℕ) → stroke extent c a b l ≡ stroke extent c b a l
+unfolding plotted
+stroke-turned extent c a b l =
+    let n = stepsOf (pointOf a) (pointOf b) in
+    turn-agree (pixel extent c a b) (λ k. pixel extent c b a (n + 1 - suc k)) (n + 1) l
+    (λ k h m.
+    ap (λ p. plotted (extent .width) (windowIn extent c) (penIn c) p m)
+    (same-from-b (pointOf a) (pointOf b) k (inside n k h) ∙ ap (pointAt b a) (from-end n k)))
+    ∙ ap (λ n. inTurn (λ k. pixel extent c b a (n + 1 - suc k)) (n + 1) l) (sym (steps-turned (pointOf a) (pointOf b)))
+    ∙ either-order (visible extent c b a) (place extent c b a) (λ k. drawn (penIn c)) (pixelCount b a) (places-apart extent c b a) l
+  where
+    inside : (n k : ℕ) → k < n + 1 → k ≤ n
+    inside n k h = omega arith
 
-      inside : (m n k : ℕ) → m ≡ n → k < n + 1 → k ≤ m
-      inside m n k e h = omega arith
+    from-end : (n k : ℕ) → n - k ≡ n + 1 - suc k
+    from-end n k = omega arith
 
-  -- twice with code 6
-  pen-undone : commandOf (c .cmd) .code ≡ exclusiveOr → (x : ℕ) → x < 256 → drawn (penIn c) (drawn (penIn c) x) ≡ x
-  pen-undone six x h =
-      let new : (d : ℕ) → drawn (penIn c) d ≡ newByte exclusiveOr (c .fore) d (c .mask) =
-      λ d.
-      pen-as (commandOf (c .cmd) .code) (c .mask) (omega (arith, six)) (c .fore) d
-      ∙ ap (λ n. newByte n (c .fore) d (c .mask)) six in
-      new (drawn (penIn c) x)
-      ∙ ap (λ d. newByte exclusiveOr (c .fore) d (c .mask)) (new x)
-      ∙ six-undoes-itself (c .fore) x (c .mask) h
+-- twice with code 6
+pen-undone : (c : Context) → commandOf (c .cmd) .code ≡ exclusiveOr → (x : ℕ) → x < 256 → drawn (penIn c) (drawn (penIn c) x) ≡ x
+pen-undone c six x h =
+    let new : (d : ℕ) → drawn (penIn c) d ≡ newByte exclusiveOr (c .fore) d (c .mask) =
+    λ d.
+    pen-as (commandOf (c .cmd) .code) (c .mask) (omega (arith, six)) (c .fore) d
+    ∙ ap (λ n. newByte n (c .fore) d (c .mask)) six in
+    new (drawn (penIn c) x)
+    ∙ ap (λ d. newByte exclusiveOr (c .fore) d (c .mask)) (new x)
+    ∙ six-undoes-itself (c .fore) x (c .mask) h
 
-  stroke-undone : commandOf (c .cmd) .code ≡ exclusiveOr → (l : List ℕ) → ((k : ℕ) → getD l k 0 < 256)
-      → stroke extent c a b (stroke extent c a b l) ≡ l
-  unfolding plotted
-  stroke-undone six l bytes =
-      twice-undone visible place (λ k. drawn (penIn c)) (pixels a b) places-apart l
-      (λ k h. pen-undone six (getD l (place k) 0) (bytes (place k)))
+stroke-undone : (extent : Extent) (c : Context) (a b : ℕ) → commandOf (c .cmd) .code ≡ exclusiveOr → (l : List ℕ)
+    → ((k : ℕ) → getD l k 0 < 256) → stroke extent c a b (stroke extent c a b l) ≡ l
+unfolding plotted
+stroke-undone extent c a b six l bytes =
+    let at = place extent c a b in
+    twice-undone (visible extent c a b) at (λ k. drawn (penIn c)) (pixelCount a b) (places-apart extent c a b) l
+    (λ k h. pen-undone c six (getD l (at k) 0) (bytes (at k)))
 
 -- ---- all visits of the line draw its stroke on the one buffer, and the other stays
 abbrev toVirtual : Context → Bool
@@ -139,33 +138,33 @@ module _ (extent : Extent) (a b : ℕ) (s : Scene) (line : SolidLine a b (s .eng
   abbrev c : Context
   c = contextOf (e .registers)
 
-  all-pixels : countOf extent e ≡ pixels a b
+  all-pixels : countOf extent e ≡ pixelCount a b
   all-pixels =
-      count-is extent e (line .line) ∙ (λ i. lineCount (pointOf (line .start i)) (pointOf (line .end i)) (line .to-the-end i))
+      count-is extent e (line .line) ∙ (λ i. lineCount (pointOf (line .start i)) (pointOf (line .end i)) (line .style .no-nlst i))
 
-  left : pixelsLeft shows extent e ≡ pixels a b
+  left : pixelsLeft shows extent e ≡ pixelCount a b
   left =
       let whole : countOf extent e - 0 ≡ countOf extent e = omega arith in
       (λ i. cond (line .under-way i) (countOf extent e - line .unvisited i) 0) ∙ whole ∙ all-pixels
 
-  strokes : (l : List ℕ) → solidState extent e (line .line) l (pixels a b) .buffer ≡ stroke extent c a b l
+  strokes : (l : List ℕ) → solidState extent e (line .line) l (pixelCount a b) .buffer ≡ stroke extent c a b l
   strokes l =
-      let n = pixels a b in
+      let n = pixelCount a b in
       let on : (k : ℕ) → e .visited + k ≡ k = λ k. omega (arith, line .unvisited) in
       sym (pixels-in-turn (extent .width) (windowIn extent c) (penIn c) (pointOf (lineStart e)) (pointOf (e .registers .xy1)) (e .visited) n l)
       ∙ (λ i.
       inTurn (λ k. plotted (extent .width) (windowIn extent c) (penIn c) (linePoint (pointOf (line .start i)) (pointOf (line .end i)) (on k i))) n l)
 
   visits-draw : (to : Bool) → toVirtual c ≡ to → (own other : List ℕ) → s ≡ sceneOn e to own other
-      → drawnOf extent s ≡ sceneOn (movedBy extent e (pixels a b) (e .pattern)) to (stroke extent c a b own) other
+      → drawnOf extent s ≡ sceneOn (movedBy extent e (pixelCount a b) (e .pattern)) to (stroke extent c a b own) other
   unfolding pixelsOf
   visits-draw to t own other q =
-      let n = pixels a b in
-      let some : e .visited < countOf extent e = below (e .visited) (stepsOf (pointOf a) (pointOf b)) (countOf extent e) (line .unvisited) all-pixels in
-      let few : e .visited + n ≤ countOf extent e = within (e .visited) n (countOf extent e) (line .unvisited) all-pixels in
+      let n = pixelCount a b in
+      let some = below (e .visited) (stepsOf (pointOf a) (pointOf b)) (countOf extent e) (line .unvisited) all-pixels in
+      let few = within (e .visited) n (countOf extent e) (line .unvisited) all-pixels in
       (λ i. visitsOf (left i) extent (q i))
       ∙ visits-are extent e to other (solidState extent e (line .line) own) t (line .under-way) some refl
-      (solid-strokes extent e (line .line) (line .solid) to other own) n few
+      (solid-strokes extent e (line .line) (line .style .solid) to other own) n few
       ∙ ap (λ l. sceneOn (movedBy extent e n (e .pattern)) to l other) (strokes own)
     where
       below : (v n c : ℕ) → v ≡ 0 → c ≡ n + 1 → v < c
@@ -174,20 +173,22 @@ module _ (extent : Extent) (a b : ℕ) (s : Scene) (line : SolidLine a b (s .eng
       within : (v n c : ℕ) → v ≡ 0 → c ≡ n → v + n ≤ c
       within v n c p q = omega arith
 
-  drawn-is : (drawnOf extent s .display ≡ drawnIf (not (toVirtual c)) (stroke extent c a b) (s .display))
-      × (drawnOf extent s .virt ≡ drawnIf (toVirtual c) (stroke extent c a b) (s .virt))
-  drawn-is = by (toVirtual c) refl
-    where
-      by : (to : Bool) → toVirtual c ≡ to
-          → (drawnOf extent s .display ≡ drawnIf (not to) (stroke extent c a b) (s .display))
-          × (drawnOf extent s .virt ≡ drawnIf to (stroke extent c a b) (s .virt))
-      by true t = let r = visits-draw true t (s .virt) (s .display) refl in (ap (λ r. r .display) r, ap (λ r. r .virt) r)
-      by false t = let r = visits-draw false t (s .display) (s .virt) refl in (ap (λ r. r .display) r, ap (λ r. r .virt) r)
+  abbrev Draws : Bool → Type 0
+  Draws to =
+      (drawnOf extent s .display ≡ drawnIf (not to) (stroke extent c a b) (s .display))
+      × (drawnOf extent s .virt ≡ drawnIf to (stroke extent c a b) (s .virt))
+
+  draws-on : (to : Bool) → toVirtual c ≡ to → Draws to
+  draws-on true t = let r = visits-draw true t (s .virt) (s .display) refl in (ap (λ r. r .display) r, ap (λ r. r .virt) r)
+  draws-on false t = let r = visits-draw false t (s .display) (s .virt) refl in (ap (λ r. r .display) r, ap (λ r. r .virt) r)
+
+  draws : Draws (toVirtual c)
+  draws = draws-on (toVirtual c) refl
 
 pub same-from-either-end : SameFromEitherEnd
 same-from-either-end extent a b s t one two same picture =
-    let x = drawn-is extent a b s one in
-    let y = drawn-is extent b a t two in
+    let x = draws extent a b s one in
+    let y = draws extent b a t two in
     record {
       display-same = x .0 ∙ either-way (λ c. not (toVirtual c)) (picture .display-same) ∙ sym (y .0);
       virt-same = x .1 ∙ either-way toVirtual (picture .virt-same) ∙ sym (y .1);
@@ -204,8 +205,8 @@ same-from-either-end extent a b s t one two same picture =
 
 pub twice-restores : TwiceRestores
 twice-restores extent a b s t one two same six bytes picture =
-    let x = drawn-is extent a b s one in
-    let y = drawn-is extent a b t two in
+    let x = draws extent a b s one in
+    let y = draws extent a b t two in
     record {
       display-same = y .0 ∙ again (λ c. not (toVirtual c)) (sym (picture .display-same) ∙ x .0) (bytes .display-bytes);
       virt-same = y .1 ∙ again toVirtual (sym (picture .virt-same) ∙ x .1) (bytes .virt-bytes);
@@ -224,117 +225,116 @@ twice-restores extent a b s t one two same six bytes picture =
         (λ i. drawnIf (to (sym same i)) (stroke extent (sym same i) a b) (p i))
         ∙ drawn-twice (to c) (stroke extent c a b) l (stroke-undone extent c a b six l h)
 
--- ---- in lists
-module _ (extent : Extent) (t : Scene) (next : LineNext (t .engine)) (a b : ℕ) where
-  -- its ends written, the line is triggered
-  abbrev begun : Scene
-  begun = takenOf extent (takenOf extent t (writing 9 a)) (writing 12 b)
+-- ---- in lists: a line's ends are written, and it is triggered
+abbrev triggeredFrom : Extent → Scene → ℕ → ℕ → Scene
+triggeredFrom extent t a b = takenOf extent (takenOf extent t (writing 9 a)) (writing 12 b)
 
-  is-line : SolidLine a b (begun .engine)
-  unfolding enteredBy writtenOf
-  is-line =
-      let f = withWord (takenOf extent t (writing 9 a) .engine) (writing 12 b) in
-      let line = ap (λ n. eqb n 2 || eqb n 5) (next .opcode) in
-      let some : countOf extent f ≡ pixels a b =
-      count-is extent f line
-      ∙ (λ i. lineCount (pointOf (cond (eqb (next .opcode i) 5) (f .last) a)) (pointOf b) (next .to-the-end i)) in
-      record {
-        under-way =
-            both (ap (λ n. eqb n 1 || (eqb n 2 || eqb n 5)) (next .opcode))
-            (ap (ltb 0) some ∙ lt-ltb 0 (pixels a b) (omega arith));
-        unvisited = refl;
-        line = line;
-        solid = next .solid;
-        to-the-end = next .to-the-end;
-        start = ap (λ n. cond (eqb n 5) (begun .engine .last) a) (next .opcode);
-        end = refl;
-      }
-
-  same-context : contextOf (begun .engine .registers) ≡ contextOf (t .engine .registers)
+module _ (extent : Extent) (t : Scene) (a b : ℕ) where
+  same-context : contextOf (triggeredFrom extent t a b .engine .registers) ≡ contextOf (t .engine .registers)
   unfolding enteredBy writtenOf
   same-context = refl
 
-  done-line : t .engine .«under_way» ≡ false → doneOf extent t (lineFrom a b) ≡ drawnOf extent begun
+  is-line : LineNext (t .engine) → SolidLine a b (triggeredFrom extent t a b .engine)
+  unfolding enteredBy writtenOf
+  is-line next =
+      let f = withWord (takenOf extent t (writing 9 a) .engine) (writing 12 b) in
+      let line = ap (λ n. eqb n 2 || eqb n 5) (next .opcode) in
+      let all : countOf extent f ≡ pixelCount a b =
+      count-is extent f line
+      ∙ (λ i. lineCount (pointOf (cond (eqb (next .opcode i) 5) (f .last) a)) (pointOf b) (next .style .no-nlst i)) in
+      record {
+        under-way =
+            both (ap (λ n. eqb n 1 || (eqb n 2 || eqb n 5)) (next .opcode))
+            (ap (ltb 0) all ∙ lt-ltb 0 (pixelCount a b) (omega arith));
+        unvisited = refl;
+        line = line;
+        style = next .style;
+        start = ap (λ n. cond (eqb n 5) (triggeredFrom extent t a b .engine .last) a) (next .opcode);
+        end = refl;
+      }
+
+  line-done : t .engine .«under_way» ≡ false → doneOf extent t (lineFrom a b) ≡ drawnOf extent (triggeredFrom extent t a b)
   unfolding doneBy enteredBy
-  done-line rest =
+  line-done rest =
       take-done shows extent t rest (writing 9 a) (writing 12 b ∷ [])
       ∙ take-done shows extent (takenOf extent t (writing 9 a)) refl (writing 12 b) []
 
-same-by : {s t u v : Scene} → s ≡ t → u ≡ v → SamePicture t v → SamePicture s u
-same-by p q r =
-    record {
-      display-same = ap (λ s. s .display) p ∙ r .display-same ∙ sym (ap (λ s. s .display) q);
-      virt-same = ap (λ s. s .virt) p ∙ r .virt-same ∙ sym (ap (λ s. s .virt) q);
-    }
-
--- entries, and a line after them
-module _ (extent : Extent) (s : Scene) (rest : s .engine .«under_way» ≡ false) where
-  line-after : (es : List Entry) (next : LineNext (doneOf extent s es .engine)) (a b : ℕ)
-      → doneOf extent s (es ++ lineFrom a b) ≡ drawnOf extent (begun extent (doneOf extent s es) next a b)
-  line-after es next a b =
+-- after other entries
+module _ (extent : Extent) (s : Scene) (rest : s .engine .«under_way» ≡ false) (es : List Entry) (a b : ℕ) where
+  line-after : doneOf extent s (es ++ lineFrom a b) ≡ drawnOf extent (triggeredFrom extent (doneOf extent s es) a b)
+  line-after =
       done-parts shows extent s es (lineFrom a b) rest
-      ∙ done-line extent (doneOf extent s es) next a b (lists-end shows extent s es rest .idle)
+      ∙ line-done extent (doneOf extent s es) a b (lists-end shows extent s es rest .idle)
 
-  -- the registers that it leaves
-  context-after : (es : List Entry) (next : LineNext (doneOf extent s es .engine)) (a b : ℕ)
-      → contextOf (doneOf extent s (es ++ lineFrom a b) .engine .registers) ≡ contextOf (doneOf extent s es .engine .registers)
-  context-after es next a b =
-      let t = begun extent (doneOf extent s es) next a b in
-      ap contextOf
-      (ap (λ r. r .engine .registers) (line-after es next a b) ∙ visits-registers shows (pixelsLeft shows extent (t .engine)) extent t)
-      ∙ same-context extent (doneOf extent s es) next a b
+  context-after : contextOf (doneOf extent s (es ++ lineFrom a b) .engine .registers) ≡ contextOf (doneOf extent s es .engine .registers)
+  context-after =
+      let t = triggeredFrom extent (doneOf extent s es) a b in
+      ap (λ r. contextOf (r .engine .registers)) line-after
+      ∙ ap contextOf (visits-registers shows (pixelsLeft shows extent (t .engine)) extent t)
+      ∙ same-context extent (doneOf extent s es) a b
+
+  next-after : LineNext (doneOf extent s es .engine) → LineNext (doneOf extent s (es ++ lineFrom a b) .engine)
+  next-after next =
+      record {
+        opcode = ap (λ (c : Context). commandOf (c .cmd) .opcode) context-after ∙ next .opcode;
+        style =
+            record {
+              solid = ap (λ (c : Context). commandOf (c .cmd) .solid) context-after ∙ next .style .solid;
+              no-nlst = ap (λ (c : Context). commandOf (c .cmd) .nlst) context-after ∙ next .style .no-nlst;
+            };
+      }
+
+picture-by : {s t : Scene} → s ≡ t → SamePicture s t
+picture-by p = record { display-same = ap (λ s. s .display) p; virt-same = ap (λ s. s .virt) p }
+
+picture-join : {s t u : Scene} → SamePicture s t → SamePicture t u → SamePicture s u
+picture-join p q =
+    record { display-same = p .display-same ∙ q .display-same; virt-same = p .virt-same ∙ q .virt-same }
 
 pub same-in-lists : SameInLists
 same-in-lists extent s es a b rest next =
     let t = doneOf extent s es in
-    same-by (line-after extent s rest es next a b) (line-after extent s rest es next b a)
-    (same-from-either-end extent a b (begun extent t next a b) (begun extent t next b a) (is-line extent t next a b) (is-line extent t next b a)
-    (same-context extent t next a b ∙ sym (same-context extent t next b a))
+    picture-join (picture-by (line-after extent s rest es a b))
+    (picture-join
+    (same-from-either-end extent a b (triggeredFrom extent t a b) (triggeredFrom extent t b a) (is-line extent t a b next)
+    (is-line extent t b a next) (same-context extent t a b ∙ sym (same-context extent t b a))
     (record { display-same = refl; virt-same = refl }))
+    (picture-by (sym (line-after extent s rest es b a))))
 
 pub twice-in-lists : TwiceInLists
 twice-in-lists extent s es a b rest next six bytes =
     let t = doneOf extent s es in
     let once = es ++ lineFrom a b in
     let u = doneOf extent s once in
-    let same = context-after extent s rest es next a b in
-    let again : LineNext (u .engine) =
-    record {
-      opcode = ap (λ (c : Context). commandOf (c .cmd) .opcode) same ∙ next .opcode;
-      solid = ap (λ (c : Context). commandOf (c .cmd) .solid) same ∙ next .solid;
-      to-the-end = ap (λ (c : Context). commandOf (c .cmd) .nlst) same ∙ next .to-the-end;
-    } in
-    let x = begun extent t next a b in
-    let y = begun extent u again a b in
+    let again = next-after extent s rest es a b next in
     let kept = done-bytes extent s es bytes in
-    let drawn-once = line-after extent s rest es next a b in
-    let restored = twice-restores extent a b x y (is-line extent t next a b) (is-line extent u again a b)
-    (same-context extent t next a b ∙ sym same ∙ sym (same-context extent u again a b))
-    (ap (λ (c : Context). commandOf (c .cmd) .code) (same-context extent t next a b) ∙ six)
+    let drawn-once = line-after extent s rest es a b in
+    let restored =
+    twice-restores extent a b (triggeredFrom extent t a b) (triggeredFrom extent u a b) (is-line extent t a b next) (is-line extent u a b again)
+    (same-context extent t a b ∙ sym (context-after extent s rest es a b) ∙ sym (same-context extent u a b))
+    (ap (λ (c : Context). commandOf (c .cmd) .code) (same-context extent t a b) ∙ six)
     (record { display-bytes = kept .display-bytes; virt-bytes = kept .virt-bytes })
-    (record { display-same = sym (ap (λ s. s .display) drawn-once); virt-same = sym (ap (λ s. s .virt) drawn-once) }) in
-    let twice = line-after extent s rest once again a b in
-    record {
-      display-same = ap (λ s. s .display) twice ∙ restored .display-same;
-      virt-same = ap (λ s. s .virt) twice ∙ restored .virt-same;
-    }
+    (record { display-same = ap (λ s. s .display) (sym drawn-once); virt-same = ap (λ s. s .virt) (sym drawn-once) }) in
+    picture-join (picture-by (line-after extent s rest once a b))
+    (record { display-same = restored .display-same; virt-same = restored .virt-same })
 
 -- ---- posted and run
 module _ (m : Machine) (j : Job) (w : Completed m j) where
   at-rest : m .board .engine .«under_way» ≡ false
   at-rest = posted-rest (j .memory) (j .start) (j .count) (m .board) (w .idle) (w .accepted)
 
-  ran-is : sceneOf (ranOn m j .after) ≡ doneOf (m .board .sizes .extent) (sceneOf m) (entriesOf j)
-  ran-is =
+  ran-is : (es : List Entry) → entriesOf j ≡ es → sceneOf (ranOn m j .after) ≡ doneOf (m .board .sizes .extent) (sceneOf m) es
+  ran-is es p =
       posted-done (m .board) (j .memory) (j .start) (j .count) (j .budget) (m .display) (m .virt) (w .idle) (w .accepted) (w .done) (w .emptied)
+      ∙ ap (doneOf (m .board .sizes .extent) (sceneOf m)) p
 
 pub same-when-posted : SameWhenPosted
 same-when-posted m i j es a b w v p q next =
-    let done = doneOf (m .board .sizes .extent) (sceneOf m) in
-    same-by (ran-is m i w ∙ ap done p) (ran-is m j v ∙ ap done q)
-    (same-in-lists (m .board .sizes .extent) (sceneOf m) es a b (at-rest m i w) next)
+    picture-join (picture-by (ran-is m i w (es ++ lineFrom a b) p))
+    (picture-join (same-in-lists (m .board .sizes .extent) (sceneOf m) es a b (at-rest m i w) next)
+    (picture-by (sym (ran-is m j v (es ++ lineFrom b a) q))))
 
 pub twice-when-posted : TwiceWhenPosted
 twice-when-posted m j es a b w p next six bytes =
-    same-by (ran-is m j w ∙ ap (doneOf (m .board .sizes .extent) (sceneOf m)) p) refl
+    picture-join (picture-by (ran-is m j w (es ++ lineFrom a b ++ lineFrom a b) p))
     (twice-in-lists (m .board .sizes .extent) (sceneOf m) es a b (at-rest m j w) next six bytes)

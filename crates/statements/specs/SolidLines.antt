@@ -8,6 +8,7 @@ use lib.ListN.{getD}
 use Rattle.geometry.specs.declared.Extent.{Extent}
 use Rattle.entries.specs.Fields.{isLine}
 use Rattle.entries.specs.declared.decoding.Entry.{Entry}
+use Rattle.entries.specs.declared.fields.Command.{Command}
 use Rattle.registers.specs.declared.file.Registers.{Registers}
 use Rattle.lists.specs.Cursors.{entriesFrom}
 use Rattle.commands.specs.Visits.{commandIn, lineStart, shows}
@@ -25,12 +26,15 @@ pub record SamePicture (s t : Scene) : Type 0 where
 
 -- "a SOLID line without NLST, from A to B", triggered and none of its pixels visited. "LINE runs from XY0 to XY1; PLINE from
 -- the last point."
+pub record Solid (c : Command) : Type 0 where
+  pub solid : c .solid ≡ true
+  pub no-nlst : c .nlst ≡ false
+
 pub record SolidLine (a b : ℕ) (e : Engine) : Type 0 where
   pub under-way : e .«under_way» ≡ true
   pub unvisited : e .visited ≡ 0
   pub line : isLine (commandIn e) ≡ true
-  pub solid : commandIn e .solid ≡ true
-  pub to-the-end : commandIn e .nlst ≡ false
+  pub style : Solid (commandIn e)
   pub start : lineStart e ≡ a
   pub end : e .registers .xy1 ≡ b
 
@@ -81,8 +85,7 @@ lineFrom a b = writing 9 a ∷ writing 12 b ∷ []
 
 pub record LineNext (e : Engine) : Type 0 where
   pub opcode : commandIn e .opcode ≡ 2
-  pub solid : commandIn e .solid ≡ true
-  pub to-the-end : commandIn e .nlst ≡ false
+  pub style : Solid (commandIn e)
 
 abbrev pub SameInLists : Type 0
 SameInLists =
