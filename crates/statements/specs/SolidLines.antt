@@ -24,12 +24,13 @@ pub record SamePicture (s t : Scene) : Type 0 where
   pub display-same : s .display ≡ t .display
   pub virt-same : s .virt ≡ t .virt
 
--- "a SOLID line without NLST, from A to B", triggered and none of its pixels visited. "LINE runs from XY0 to XY1; PLINE from
--- the last point."
+-- SOLID, and without NLST.
 pub record Solid (c : Command) : Type 0 where
   pub solid : c .solid ≡ true
   pub no-nlst : c .nlst ≡ false
 
+-- "a SOLID line without NLST, from A to B", triggered and none of its pixels visited. "LINE runs from XY0 to XY1; PLINE from
+-- the last point."
 pub record SolidLine (a b : ℕ) (e : Engine) : Type 0 where
   pub under-way : e .«under_way» ≡ true
   pub unvisited : e .visited ≡ 0
