@@ -11,6 +11,6 @@ doubled code = byteOf (λ k. bit (k / 2) code)
 abbrev pub CodesDoubled : Type 0
 CodesDoubled = (code : ℕ) → newByte code 0x0F 0x33 0xFF ≡ doubled code
 
--- Code 6, exclusive or: the same source drawn twice leaves the old byte, whatever the mask.
+-- Code 6, exclusive or: the same source drawn twice leaves the old byte, whatever the mask; proved in proofs/Undone.antt.
 abbrev pub SixUndoesItself : Type 0
 SixUndoesItself = (source old mask : ℕ) → old < 256 → newByte 6 source (newByte 6 source old mask) mask ≡ old

@@ -1,5 +1,5 @@
--- A SOLID line without NLST draws a stroke of pixels, each at a place of its own; from B to A they are the same in the opposite
--- order. So is what it draws in a list, and what a post and a run leave of such a list.
+-- A SOLID line without NLST draws a stroke, whose pixels are at places of their own and from B to A the same in the opposite
+-- order. So it leaves the same picture from either end, and code 6 twice restores it: of every scene, in lists, by the calls.
 -- Assumes nothing.
 use mathlib.Core.Path.{_≡_, refl, ap, sym, _∙_}
 use mathlib.Core.Bool.{Bool, true, false, not, cond, _&&_, _||_}
@@ -16,7 +16,7 @@ use Rattle.lemmas.proofs.Orders.{either-order, twice-undone}
 use Rattle.raster.specs.Raster.{newByte}
 use Rattle.raster.specs.Selectors.{penOf, drawn}
 use Rattle.raster.specs.declared.Pen.{Pen}
-use Rattle.raster.proofs.Codes.{six-undoes-itself}
+use Rattle.raster.proofs.Undone.{six-undoes-itself}
 use Rattle.raster.proofs.Wide.{pen-as}
 use Rattle.geometry.specs.Coordinates.{pointOf}
 use Rattle.geometry.specs.Clip.{rectOf, inRect, inBuffer, placeIn, windowOf, inWindow}
