@@ -169,6 +169,7 @@ static uint64_t blit(struct baseline *engine, uint8_t *const buffers[2])
     const int32_t top = engine->registers[XY3] & 1 ? to.y - height + 1 : to.y;
     const struct box drawn = {left, top, left + width - 1, top + height - 1};
     struct box box = overlap_of(window_of(engine), drawn);
+    const uint64_t visited = pixels_of(box);
     uint8_t *target = buffers[cmd & TO_VIRTUAL ? 1 : 0];
     if (cmd & SOLID) {
         if (!is_empty(box))
@@ -183,7 +184,7 @@ static uint64_t blit(struct baseline *engine, uint8_t *const buffers[2])
         if (!is_empty(box))
             copy_box(engine, target, buffers[cmd & FROM_VIRTUAL ? 1 : 0], box, ahead);
     }
-    return (uint64_t)width * (uint64_t)height;
+    return visited;
 }
 
 /* Lines. Pixel i has the major coordinate A's + i * direction and the minor one A's + floor((2 i slope + n - 1) / 2n). */

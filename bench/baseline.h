@@ -13,6 +13,7 @@ struct baseline {
     uint32_t phase;         /* pattern state: place * scale + repeat */
     uint32_t period;        /* length * scale of the pattern in dots */
     bool stale;             /* dots no longer follow LPAT and PCTRL */
+    bool visits_hidden;     /* counts the hidden pixels of blits as steps, as libraries before 0.7.0 do */
     uint8_t dots[256];      /* the pattern bit at each phase */
     _Alignas(64) uint8_t saved[2048]; /* the source of a row that is copied onto itself */
 };
@@ -23,8 +24,8 @@ void baseline_make(struct baseline *engine, int32_t width, int32_t height);
 /* Before each run, its list is posted; this engine has nothing to do there. */
 void baseline_post(struct baseline *engine, const uint8_t *list, size_t entries);
 
-/* Runs a list of legal entries to its end and returns its steps: entries fetched and pixels visited. Entries are not
- * checked. The buffers do not overlap. */
+/* Runs a list of legal entries to its end and returns its steps: entries fetched and pixels visited, of a blit those that
+ * buffer and clip let through. Entries are not checked. The buffers do not overlap. */
 uint64_t baseline_run(struct baseline *engine, const uint8_t *list, size_t entries, uint8_t *display, uint8_t *virt);
 
 #endif

@@ -32,6 +32,7 @@ enum { SIDE = 2048, ENTRIES = 4096, PIXELS = SIDE * SIDE, MOST_WORKS = 400, KEY_
 enum shape { FILL, COPY, STIPPLE, LINES, WRITES };
 enum angle { ANY, HORIZONTAL, VERTICAL, DIAGONAL };
 enum yardstick { NO_YARDSTICK, BY_MEMSET, BY_MEMCPY };
+enum hiding { SHOWN, OFF_THE_BOARD, UNDER_A_CLIP };
 
 /* What is asked of the speed: a least ratio to the baseline, or to memset and memcpy. */
 enum goal_number {
@@ -45,6 +46,7 @@ enum goal_number {
     DASHED_LINES,
     SMALL_BLITS,
     STIPPLES, /* one bit a pixel: glyphs too */
+    HIDDEN,   /* blits of which 1 % shows */
     MEMSET,
     MEMCPY,
     GOALS
@@ -63,6 +65,7 @@ struct work {
     enum shape shape;
     uint32_t code, mask, direction;
     int32_t width, height; /* of a blit */
+    enum hiding hiding;    /* of all but a square of it */
     int32_t commands;      /* in the list */
     bool scattered;        /* over the field, not in one place */
     bool from_virtual, keyed, many_hits, clip;
@@ -74,6 +77,7 @@ struct work {
     uint32_t scale;
     enum yardstick yardstick;
     enum goal_number goal, yardstick_goal;
+    uint64_t visits; /* the pixels that its list visits, once it has been compared */
 };
 
 /* The sizes of everything, and for `tiny` smaller ones. */
@@ -83,6 +87,7 @@ struct sizes {
     int32_t small, field, glyphs, long_line, short_line;  /* glyphs in the font */
     int32_t small_blits, long_lines, short_lines, writes; /* in a list */
     int32_t within_x, within_y;                           /* how far a copy within the display goes */
+    int32_t shown;                                        /* the side of the square that shows of a hidden blit */
 };
 
 static const struct sizes full_sizes = {
@@ -90,7 +95,7 @@ static const struct sizes full_sizes = {
     .large_width = 2000, .large_height = 2000, .middle_width = 500, .middle_height = 500,
     .small = 10, .field = 640, .glyphs = 256, .long_line = 500, .short_line = 10,
     .small_blits = 2000, .long_lines = 400, .short_lines = 2000, .writes = 4000,
-    .within_x = 1101, .within_y = 700,
+    .within_x = 1101, .within_y = 700, .shown = 205,
 };
 
 static const struct sizes tiny_sizes = {
@@ -98,7 +103,7 @@ static const struct sizes tiny_sizes = {
     .large_width = 100, .large_height = 60, .middle_width = 61, .middle_height = 37,
     .small = 10, .field = 64, .glyphs = 40, .long_line = 50, .short_line = 10,
     .small_blits = 40, .long_lines = 40, .short_lines = 40, .writes = 100,
-    .within_x = 87, .within_y = 45,
+    .within_x = 87, .within_y = 45, .shown = 15,
 };
 
 struct pictures {
@@ -217,6 +222,15 @@ static void target_place(const struct work *w, int32_t *x, int32_t *y)
     *y += w->from_virtual || w->shape == FILL ? 4 : w->move_y;
 }
 
+/* Where a hidden blit lies: past the upper left corner of the board, or over all of it, and its source beside it. */
+static void hidden_places(const struct work *w, int32_t *from_x, int32_t *from_y, int32_t *to_x, int32_t *to_y)
+{
+    *to_x = w->hiding == OFF_THE_BOARD ? sizes.shown - w->width : 0;
+    *to_y = w->hiding == OFF_THE_BOARD ? sizes.shown - w->height : 0;
+    *from_x = *to_x + 3;
+    *from_y = *to_y + 5;
+}
+
 /* The upper left bit of a stipple: of any glyph in a font beside the field, or of one that is drawn in one place. */
 static void bit_place(const struct work *w, int32_t *x, int32_t *y)
 {
@@ -241,6 +255,8 @@ static void put_blit(const struct work *w)
         to_x = from_x + w->move_x;
         to_y = from_y + w->move_y;
     }
+    if (w->hiding != SHOWN)
+        hidden_places(w, &from_x, &from_y, &to_x, &to_y);
     if (w->shape == STIPPLE)
         bit_place(w, &from_x, &from_y);
     if (w->shape == FILL)
@@ -250,11 +266,17 @@ static void put_blit(const struct work *w)
     put(XY1, corner_of(w, to_x, to_y));
 }
 
-/* A clip that hides the right third. */
+/* A clip that hides the right third, or all but a square. */
 static void put_blit_clip(const struct work *w)
 {
     int32_t x, y;
     target_place(w, &x, &y);
+    if (w->hiding != SHOWN) {
+        x = sizes.board_width / 2;
+        y = sizes.board_height / 2;
+        put_clip(x, y, x + sizes.shown - 1, y + sizes.shown - 1);
+        return;
+    }
     if (w->scattered)
         put_clip(0, 0, sizes.field * 2 / 3, sizes.board_height - 1);
     else
@@ -426,31 +448,41 @@ static bool same_number(const char *name, const char *what, uint64_t library, ui
     return library == baseline;
 }
 
-/* The list once through both engines, from equal buffers. */
-static bool draws_the_same(const char *name, uint64_t budget)
+/* Whether the steps are equal; where blits are hidden, an engine that visits hidden pixels may have more. */
+static bool same_steps(const char *name, bool hides, uint64_t library, uint64_t baseline)
 {
-    uint64_t steps = 0;
+    return (engine.visits_hidden && hides && library < baseline) || same_number(name, "steps", library, baseline);
+}
+
+/* The list once through both engines, from equal buffers. */
+static bool draws_the_same(const char *name, bool hides, uint64_t budget, uint64_t *steps)
+{
+    *steps = 0;
     post();
     while (board.active_taken)
-        steps += run(budget);
+        *steps += run(budget);
     baseline_post(&engine, list, entries);
     const uint64_t baseline_steps = run_baseline(&of_baseline);
     const uint32_t scale = (board.pctrl >> 5 & 7) + 1;
-    return same_number(name, "steps", steps, baseline_steps)
+    return same_steps(name, hides, *steps, baseline_steps)
         & same_number(name, "pattern state", board.pattern_place * scale + board.pattern_repeat, engine.phase)
         & same_number(name, "last point", board.last, engine.last)
         & same_bytes(name, "display", of_library.display, of_baseline.display)
         & same_bytes(name, "virtual", of_library.virt, of_baseline.virt);
 }
 
-static bool compare_work(const struct work *w, uint64_t budget)
+static bool compare_work(struct work *w, uint64_t budget)
 {
+    uint64_t steps;
     char name[sizeof w->name + sizeof w->size + 2];
     snprintf(name, sizeof name, "%.47s, %.15s", w->name, w->size);
     make_engines(sizes.board_width, sizes.board_height);
     build_list(w);
     seed_pictures(w->many_hits);
-    return draws_the_same(name, budget);
+    const bool hides = w->shape != LINES && (w->clip || w->hiding != SHOWN);
+    const bool same = draws_the_same(name, hides, budget, &steps);
+    w->visits = steps - entries;
+    return same;
 }
 
 /* Random lists, for the comparison alone */
@@ -531,6 +563,7 @@ static uint32_t random_data(uint32_t number)
 /* Every third list is run a few steps at a time. */
 static bool compare_random(uint64_t seed)
 {
+    uint64_t steps;
     char name[40];
     snprintf(name, sizeof name, "random list %" PRIu64, seed);
     seed_random(seed);
@@ -541,7 +574,7 @@ static bool compare_random(uint64_t seed)
         const uint32_t number = random_chance(30) ? XY1 : random_word() % 13;
         put(number, random_data(number));
     }
-    return draws_the_same(name, seed % 3 == 0 ? seed : UINT64_MAX);
+    return draws_the_same(name, true, seed % 3 == 0 ? seed : UINT64_MAX, &steps);
 }
 
 /* The kinds of work */
@@ -771,6 +804,31 @@ static void add_dashed_lines(bool is_long)
     }
 }
 
+/* Blits as large as can be, of which 1 % shows. */
+static void add_hidden(enum shape shape, const char *name, uint32_t code, bool from_virtual)
+{
+    for (enum hiding hiding = OFF_THE_BOARD; hiding <= UNDER_A_CLIP; hiding++) {
+        struct work *w = add(shape, "%s code %u %s", name, (unsigned)code,
+                             hiding == OFF_THE_BOARD ? "1 % on the board" : "1 % in the clip");
+        w->code = code;
+        w->width = w->height = SIDE;
+        w->from_virtual = from_virtual;
+        w->hiding = hiding;
+        w->clip = hiding == UNDER_A_CLIP;
+        w->goal = HIDDEN;
+        snprintf(w->size, sizeof w->size, "%d x %d", SIDE, SIDE);
+    }
+}
+
+static void add_all_hidden(void)
+{
+    for (uint32_t code = 3; code <= 6; code += 3) {
+        add_hidden(FILL, "fill", code, false);
+        add_hidden(COPY, "copy between", code, true);
+        add_hidden(COPY, "copy within", code, false);
+    }
+}
+
 static void add_works(void)
 {
     add_fills(MIDDLE);
@@ -778,6 +836,7 @@ static void add_works(void)
     add_fills(SMALL);
     add_all_copies();
     add_all_stipples();
+    add_all_hidden();
     add_solid_lines(true);
     add_solid_lines(false);
     add_dashed_lines(true);
@@ -891,6 +950,7 @@ static struct goal goals[GOALS] = {
     [DASHED_LINES] = {"dashed lines", 0.7, 0, 0, 1e9, 0},
     [SMALL_BLITS] = {"10 x 10", 0.65, 0, 0, 1e9, 0},
     [STIPPLES] = {"glyphs and stipples", 0.7, 0, 0, 1e9, 0},
+    [HIDDEN] = {"2048 x 2048 of which 1 % shows", 1.0, 0, 0, 1e9, 0},
     [MEMSET] = {"fills of 2000 x 2000, to memset", 0.7, 0, 0, 1e9, 0},
     [MEMCPY] = {"copies of 2000 x 2000, to memcpy", 0.7, 0, 0, 1e9, 0},
 };
@@ -900,11 +960,7 @@ static int misses_count;
 
 static double units_of(const struct work *w)
 {
-    if (w->shape == WRITES)
-        return w->commands;
-    if (w->shape == LINES)
-        return (double)w->commands * w->length;
-    return (double)w->commands * w->width * w->height;
+    return w->shape == WRITES ? w->commands : (double)w->visits;
 }
 
 static bool is_small(const struct work *w)
@@ -1012,6 +1068,8 @@ static bool is_cut(const struct work *w)
                                         "copy between code 3",   "copy within code 6",
                                         "stipple opaque code 3", "line any angle code 3",
                                         "dashed any angle opaque scale 4"};
+    if (w->hiding != SHOWN)
+        return w->code == 3;
     for (size_t i = 0; i < sizeof names / sizeof *names; i++)
         if (strcmp(w->name, names[i]) == 0 && !is_small(w) && w->width != sizes.large_width)
             return true;

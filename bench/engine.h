@@ -61,6 +61,11 @@ static inline bool is_empty(struct box a)
     return a.right < a.left || a.bottom < a.top;
 }
 
+static inline uint64_t pixels_of(struct box a)
+{
+    return is_empty(a) ? 0 : (uint64_t)(a.right - a.left + 1) * (uint64_t)(a.bottom - a.top + 1);
+}
+
 static inline struct mix mix_of(const struct baseline *engine)
 {
     const uint32_t code = engine->registers[CMD] >> 24;

@@ -29,12 +29,44 @@ static uint32_t line_count(uint32_t from, uint32_t to, bool without_last)
     return (uint32_t)(dx < dy ? dy : dx) + !without_last;
 }
 
+static int32_t lesser(int32_t a, int32_t b)
+{
+    return a < b ? a : b;
+}
+
+static int32_t greater(int32_t a, int32_t b)
+{
+    return a > b ? a : b;
+}
+
+/* How many of `length` columns or rows from `at` on, or back, lie in low to high. */
+static uint32_t shown(int32_t at, bool back, int32_t length, int32_t low, int32_t high)
+{
+    const int32_t first = greater(back ? at - length + 1 : at, low);
+    const int32_t last = lesser(back ? at : at + length - 1, high);
+    return last < first ? 0 : (uint32_t)(last - first + 1);
+}
+
+/* The pixels of a blit inside the buffer and, with CLIP, inside the clip. */
+static uint32_t blit_count(const pramolyt_board *b)
+{
+    int32_t left = 0, top = 0, right = (int32_t)b->width - 1, bottom = (int32_t)b->height - 1;
+    if (bit(b->cmd, 17)) {
+        left = greater(left, (int16_t)(b->clptl >> 16));
+        top = greater(top, (int16_t)b->clptl);
+        right = lesser(right, (int16_t)(b->clpbr >> 16));
+        bottom = lesser(bottom, (int16_t)b->clpbr);
+    }
+    return shown((int16_t)(b->xy1 >> 16), b->xy3 & 2, (int32_t)(b->xy2 >> 16), left, right) *
+           shown((int16_t)b->xy1, b->xy3 & 1, (int32_t)(b->xy2 & 65535), top, bottom);
+}
+
 /* The pixels that the command in CMD visits. */
 static uint32_t visits_of(const pramolyt_board *b)
 {
     switch (b->cmd >> 28) {
     case PRAMOLYT_BITBLT:
-        return (b->xy2 >> 16) * (b->xy2 & 65535);
+        return blit_count(b);
     case PRAMOLYT_LINE:
         return line_count(b->xy0, b->xy1, bit(b->cmd, 19));
     case PRAMOLYT_PLINE:
@@ -199,10 +231,11 @@ static void random_board(void)
     const size_t entries = 1 + random_word() % FEW;
     pramolyt_make(&board, 2, 2, entries);
     for (size_t k = 0; k < entries; k++) {
-        static const uint32_t words[][2] = {{PRAMOLYT_CMD, 0x13800000}, {PRAMOLYT_CMD, 0x23800000}, {PRAMOLYT_CMD, 0x53880000},
-                                            {PRAMOLYT_XY2, 0x00070003}, {PRAMOLYT_XY1, 0x00050009}, {PRAMOLYT_XY0, 0xFFFE0001},
-                                            {PRAMOLYT_PCTRL, 0x2144}};
-        const uint32_t *const entry = words[random_word() % 7];
+        static const uint32_t words[][2] = {{PRAMOLYT_CMD, 0x13800000},   {PRAMOLYT_CMD, 0x13820000},   {PRAMOLYT_CMD, 0x23800000},
+                                            {PRAMOLYT_CMD, 0x53880000},   {PRAMOLYT_CLPBR, 0x00000001}, {PRAMOLYT_XY2, 0x00070003},
+                                            {PRAMOLYT_XY3, 0x00000003},   {PRAMOLYT_XY1, 0x00050009},   {PRAMOLYT_XY1, 0xFFFEFFFF},
+                                            {PRAMOLYT_XY1, 0x00040002},   {PRAMOLYT_XY0, 0xFFFE0001},   {PRAMOLYT_PCTRL, 0x2144}};
+        const uint32_t *const entry = words[random_word() % 12];
         pramolyt_put_entry(lists[0] + 5 * k, entry[0], entry[1]);
     }
     for (int k = 0; k < 3; k++) {

@@ -24,9 +24,9 @@
 #include <stdint.h>
 
 #define PRAMOLYT_VERSION_MAJOR 0
-#define PRAMOLYT_VERSION_MINOR 6
+#define PRAMOLYT_VERSION_MINOR 7
 #define PRAMOLYT_VERSION_PATCH 0
-#define PRAMOLYT_VERSION "0.6.0"
+#define PRAMOLYT_VERSION "0.7.0"
 
 /* The edition of the record and of the calls' arguments. The archive's symbols carry it, so that a program compiled with a
  * header of another edition does not link. In C and C++ one writes the names without it. */
@@ -162,7 +162,8 @@ uint32_t pramolyt_window_write(pramolyt_board *board, size_t number, size_t offs
 
 /* Runs the posted lists for at most `budget` steps (an entry fetched or a pixel visited): 0, 1, 2 or 9. It is 2 where
  * list_len is not 5 * entries, or display_len or virt_len not width * height. *steps is the steps done; with 0 it is the
- * lesser of the budget and the steps left in both lists.
+ * lesser of the budget and the steps left in both lists. A blit visits only pixels inside the buffer and its clip, so it takes
+ * width * height steps at most, and none where nothing of it shows; a line visits hidden pixels too.
  *
  * 9 means that list memory or the record is not as the last call left it. board->next is the illegal entry, its list stays
  * active, and a further run of a step or more answers 9 again. To go on, write a legal entry over its 5 bytes, those from

@@ -281,7 +281,9 @@ static void sizes(void)
     check(draw() == 6, "pixels", "size");
     check(shows(display, "........" ".444...." ".444...." "........"), "drawn", "width, then height");
     blit(PRAMOLYT_CMD_SOLID, pramolyt_size(SIDE, 3), pramolyt_point(0, 0));
-    check(draw() == 3 * SIDE, "pixels", "widest");
+    check(draw() == 3 * WIDTH, "pixels", "widest");
+    blit(PRAMOLYT_CMD_SOLID, pramolyt_size(SIDE, SIDE), pramolyt_point(WIDTH, 0));
+    check(draw() == 0, "pixels", "right of the board");
     blit(PRAMOLYT_CMD_SOLID, pramolyt_size(0, SIDE), pramolyt_point(0, 0));
     check(draw() == 0, "pixels", "width 0");
     check(legal(PRAMOLYT_XY2, pramolyt_size(SIDE, SIDE)), "XY2", "largest");
@@ -414,7 +416,7 @@ static void flag_of_the_clip(void)
     put(PRAMOLYT_CLPTL, pramolyt_point(1, 1));
     put(PRAMOLYT_CLPBR, pramolyt_point(3, 2));
     blit(PRAMOLYT_CMD_SOLID | PRAMOLYT_CMD_CLIP, pramolyt_size(WIDTH, HEIGHT), pramolyt_point(0, 0));
-    check(draw() == AREA, "pixels", "CLIP");
+    check(draw() == 6, "pixels", "CLIP");
     check(shows(display, "........" ".555...." ".555...." "........"), "drawn", "CLIP, CLPTL and CLPBR");
 }
 

@@ -15,6 +15,7 @@ use Rattle.lists.specs.declared.cursors.Next.{Next}
 use Rattle.lists.specs.declared.cursors.Next.the-variants.{Ended, Visit, Take, Broken}
 use Rattle.lists.proofs.Fetches.{chosen}
 use Rattle.lists.proofs.Rests.{rest-end, rest-next, ended-rest}
+use Rattle.commands.specs.Visits.{shows}
 use Rattle.commands.specs.Steps.{Scene, scene, visitOf, takenOf}
 use Rattle.commands.specs.Wholes.{stepsOf}
 use Rattle.commands.proofs.Counts.{visit-steps, take-steps, none-left}
@@ -41,7 +42,7 @@ settled-to-come l b =
     ∙ ap (λ es. es ++ next) (sym (ended-rest l (b .active .cursor) (b .engine .«under_way») h)))
     (λ h. ap (toCome l) (sym (second-of t (followed b) b h)))
 
-settled-scene : (b : Board) (d v : List ℕ) → scene (settledOf b .engine) d v ≡ scene (b .engine) d v
+pub settled-scene : (b : Board) (d v : List ℕ) → scene (settledOf b .engine) d v ≡ scene (b .engine) d v
 settled-scene b d v = ap (λ e. scene e d v) (settled-engine b)
 
 -- the steps left after a step of the active list
@@ -53,13 +54,13 @@ moved-left l m c s =
     (λ i. stepsOf (z i .extent) (settled-scene b (s .display) (s .virt) i) (settled-to-come l b i))
 
 -- nothing to do
-none-to-come : (l : List ℕ) (b : Board) → Good b → b .active .taken ≡ false → toCome l b ≡ []
+pub none-to-come : (l : List ℕ) (b : Board) → Good b → b .active .taken ≡ false → toCome l b ≡ []
 none-to-come l b g t =
     ap₂ _++_ (active-rest (b .active) (b .sizes .entries) (b .engine .«under_way») l (g .active) t)
     (slot-rest (b .pending) (b .sizes .entries) l (g .pending) (none-waits b g t))
 
 -- ended with no list left: a well formed board's list has not ended
-ended-free : (l : List ℕ) (b : Board) → Good b → nextOn l b ≡ Ended → b .active .taken ≡ false
+pub ended-free : (l : List ℕ) (b : Board) → Good b → nextOn l b ≡ Ended → b .active .taken ≡ false
 ended-free l b g e =
     by-cases (b .active .taken)
     (λ t.
@@ -76,23 +77,23 @@ idle-left l m e g =
     let b = m .board in
     let u = chosen l (b .active .cursor) (b .engine .«under_way») Ended e .0 in
     ap (stepsOf (b .sizes .extent) (sceneOf m)) (none-to-come l b g (ended-free l b g e))
-    ∙ none-left (b .sizes .extent) (sceneOf m) u
+    ∙ none-left shows (b .sizes .extent) (sceneOf m) u
 
-visit-left : (l : List ℕ) (m : Machine) → nextOn l (m .board) ≡ Visit → Good (m .board) → stepsLeft l m ≡ 1 + stepsLeft l (actOf Visit m)
+pub visit-left : (l : List ℕ) (m : Machine) → nextOn l (m .board) ≡ Visit → Good (m .board) → stepsLeft l m ≡ 1 + stepsLeft l (actOf Visit m)
 visit-left l m e g =
     let b = m .board in
     let u = chosen l (b .active .cursor) (b .engine .«under_way») Visit e in
-    visit-steps (b .sizes .extent) (sceneOf m) u (pixels-of b g u) (toCome l b)
+    visit-steps shows (b .sizes .extent) (sceneOf m) u (pixels-of b g u) (toCome l b)
     ∙ ap (λ n. 1 + n) (sym (moved-left l m (b .active .cursor) (visitOf (b .sizes .extent) (sceneOf m))))
 
-take-left : (l : List ℕ) (m : Machine) (x : Entry) → nextOn l (m .board) ≡ Take x → Good (m .board)
+pub take-left : (l : List ℕ) (m : Machine) (x : Entry) → nextOn l (m .board) ≡ Take x → Good (m .board)
     → stepsLeft l m ≡ 1 + stepsLeft l (actOf (Take x) m)
 take-left l m x e g =
     let b = m .board in
     let c = chosen l (b .active .cursor) (b .engine .«under_way») (Take x) e in
     let next = restOf l (cursorOn (b .pending .span)) in
     ap (λ es. stepsOf (b .sizes .extent) (sceneOf m) (es ++ next)) (c .head)
-    ∙ take-steps (b .sizes .extent) (sceneOf m) (c .resting) x (restOf l (fetchedOf (b .active .cursor)) ++ next)
+    ∙ take-steps shows (b .sizes .extent) (sceneOf m) (c .resting) x (restOf l (fetchedOf (b .active .cursor)) ++ next)
     ∙ ap (λ n. 1 + n) (sym (moved-left l m (fetchedOf (b .active .cursor)) (takenOf (b .sizes .extent) (sceneOf m) x)))
 
 -- a run of one step more
@@ -131,21 +132,21 @@ left-after (suc k) l m w h =
     h
 
 -- a board with a list has a step left, and one without has none
-busy-left : (l : List ℕ) (m : Machine) → Good (m .board) → m .board .active .taken ≡ true → 1 ≤ stepsLeft l m
+pub busy-left : (l : List ℕ) (m : Machine) → Good (m .board) → m .board .active .taken ≡ true → 1 ≤ stepsLeft l m
 busy-left l m g t =
     let b = m .board in
     let c = b .active .cursor in
     let next = restOf l (cursorOn (b .pending .span)) in
     by-cases (b .engine .«under_way»)
-    (λ u. omega (arith, visit-steps (b .sizes .extent) (sceneOf m) u (pixels-of b g u) (toCome l b)))
+    (λ u. omega (arith, visit-steps shows (b .sizes .extent) (sceneOf m) u (pixels-of b g u) (toCome l b)))
     (λ u.
     let head = ap (λ es. stepsOf (b .sizes .extent) (sceneOf m) (es ++ next)) (rest-next l c (next-below b g t u .before)) in
-    omega (arith, head, take-steps (b .sizes .extent) (sceneOf m) u (entryOf l (c .next)) (restOf l (fetchedOf c) ++ next)))
+    omega (arith, head, take-steps shows (b .sizes .extent) (sceneOf m) u (entryOf l (c .next)) (restOf l (fetchedOf c) ++ next)))
 
-free-left : (l : List ℕ) (m : Machine) → Good (m .board) → m .board .active .taken ≡ false → stepsLeft l m ≡ 0
+pub free-left : (l : List ℕ) (m : Machine) → Good (m .board) → m .board .active .taken ≡ false → stepsLeft l m ≡ 0
 free-left l m g t =
     ap (stepsOf (m .board .sizes .extent) (sceneOf m)) (none-to-come l (m .board) g t)
-    ∙ none-left (m .board .sizes .extent) (sceneOf m) (at-rest (m .board) g t)
+    ∙ none-left shows (m .board .sizes .extent) (sceneOf m) (at-rest (m .board) g t)
 
 pub ends-idle : EndsIdle
 ends-idle l m w h =

@@ -2,6 +2,7 @@ pub mod Forms
 pub mod Keeps
 pub mod Goes
 pub mod Counts
+pub mod Wholes
 pub mod Refused
 pub mod Replies
 pub mod Feeds

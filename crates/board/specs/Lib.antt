@@ -4,4 +4,5 @@ pub mod Runs
 pub mod Left
 pub mod Stopped
 pub mod Calls
+pub mod Wholes
 pub mod Feeding

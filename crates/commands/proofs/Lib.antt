@@ -1,3 +1,4 @@
+pub mod Shown
 pub mod Tests
 pub mod Marks
 pub mod Bounds
@@ -5,4 +6,6 @@ pub mod Triggers
 pub mod Visiting
 pub mod Sound
 pub mod Counts
+pub mod Unchanged
+pub mod Lists
 pub mod Examples

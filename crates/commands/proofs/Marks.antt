@@ -18,7 +18,7 @@ use Rattle.sources.specs.Sources.{sourceOf}
 use Rattle.sources.specs.declared.Source.{Source}
 use Rattle.sources.specs.declared.Source.the-variants.{Value, Nothing}
 use Rattle.commands.specs.Visits.{commandIn, cellAt, targetFrom, targetOf, sourceAt}
-use Rattle.commands.specs.Steps.{scene, inked, inkedAt, inDashes, patternAfter, advancedOf, visitOf}
+use Rattle.commands.specs.Steps.{scene, inked, inkedAt, inDashes, patternAfter, advancedOf, visitBy, visitOf}
 use Rattle.commands.proofs.Tests.{flag-is}
 use Rattle.commands.specs.declared.Engine.{Engine}
 
@@ -54,7 +54,7 @@ module _ (extent : Extent) (e : Engine) (d v m : List ℕ) (c : Command) (cell :
       ∙ ap₂ (λ c cell. inked e (sourceOf c (e .registers) (e .pattern) extent cell d v) (targetFrom extent e (e .visited) cell) l) p shared
 
   pub visit-virtual : c .«to_virtual» ≡ true → m ≡ inked e s q v → scene a d m ≡ visitOf extent (scene e d v)
-  unfolding visitOf
+  unfolding visitBy
   visit-virtual h k =
       let place = targetOf extent e (e .visited) in
       let source = sourceAt extent e (e .visited) d v in
@@ -63,7 +63,7 @@ module _ (extent : Extent) (e : Engine) (d v m : List ℕ) (c : Command) (cell :
       (sym (flag-is e c p (λ c. c .«to_virtual») true h))
 
   pub visit-display : c .«to_virtual» ≡ false → m ≡ inked e s q d → scene a m v ≡ visitOf extent (scene e d v)
-  unfolding visitOf
+  unfolding visitBy
   visit-display h k =
       let place = targetOf extent e (e .visited) in
       let source = sourceAt extent e (e .visited) d v in

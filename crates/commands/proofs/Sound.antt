@@ -13,8 +13,8 @@ use Rattle.entries.specs.declared.decoding.Entry.{Entry}
 use Rattle.registers.specs.Patterns.{nextOf}
 use Rattle.registers.specs.States.{stateOk}
 use Rattle.registers.proofs.Stays.{writes-stay-ok, moves-stay-ok}
-use Rattle.commands.specs.Visits.{commandIn, countOf}
-use Rattle.commands.specs.Steps.{inDashes, patternAfter, advancedOf, visitOf, setsPattern, withWord, triggeredOf, enteredOf}
+use Rattle.commands.specs.Visits.{commandIn, shows, countOf}
+use Rattle.commands.specs.Steps.{inDashes, patternAfter, advancedBy, advancedOf, visitBy, setsPattern, withWord, triggeredOf, enteredBy, enteredOf}
 use Rattle.commands.specs.Record.{commandOk, engineOk, VisitsStayOk, EntriesStayOk}
 use Rattle.commands.specs.declared.Engine.{Engine}
 use Rattle.commands.proofs.Bounds.{count-same}
@@ -49,7 +49,7 @@ entered-command : (extent : Extent) (number : ℕ) (f : Engine) → commandOk ex
 entered-command extent number f =
     let t = triggers number (commandIn f) && ltb 0 (countOf extent f) in
     by (ltb 0 (countOf extent (triggeredOf extent number f))) t
-    (λ h. ap (ltb 0) (triggered-count extent number f h) ∙ and-right (triggers number (commandIn f)) (ltb 0 (countOf extent f)) h)
+    (λ h. ap (ltb 0) (triggered-count shows extent number f h) ∙ and-right (triggers number (commandIn f)) (ltb 0 (countOf extent f)) h)
   where
     by : (some t : Bool) → (t ≡ true → some ≡ true) → cond t some true ≡ true
     by some true f = f refl
@@ -57,7 +57,7 @@ entered-command extent number f =
 
 pub entered-ok : (extent : Extent) (e : Engine) (entry : Entry) → entryLegal entry ≡ true → engineOk extent e ≡ true
     → engineOk extent (enteredOf extent e entry) ≡ true
-unfolding enteredOf
+unfolding enteredBy
 entered-ok extent e entry legal ok =
     let f = withWord e entry in
     let number = entry .register in
@@ -89,15 +89,15 @@ going-on e =
     }
 
 pub advanced-ok : (extent : Extent) (e : Engine) → engineOk extent e ≡ true → engineOk extent (advancedOf extent e) ≡ true
-unfolding advancedOf going-on
+unfolding advancedBy going-on
 advanced-ok extent e ok =
     let state = moved-state e (engine-state extent e ok) in
     by-cases (ltb (e .visited + 1) (countOf extent e))
-    (λ t. rw t (both state (ap (ltb (e .visited + 1)) (count-same extent (going-on e) e refl refl) ∙ t)))
+    (λ t. rw t (both state (ap (ltb (e .visited + 1)) (count-same shows extent (going-on e) e refl refl) ∙ t)))
     (λ t. rw t (both state refl))
 
 pub visits-stay-ok : VisitsStayOk
-unfolding visitOf
+unfolding visitBy
 visits-stay-ok extent s ok = advanced-ok extent (s .engine) ok
 
 pub entries-stay-ok : EntriesStayOk

@@ -1,16 +1,19 @@
 -- What a command's decoded fields say of the definitions: the kind, the visit and the clip.
 -- Assumes nothing.
-use Rattle.geometry.specs.declared.Cell.the-variants.{Past as CellPast}
 use mathlib.Core.Path.{_≡_, ap, ap₂, sym, _∙_}
 use mathlib.Core.Bool.{Bool, true, false, not, cond, _&&_, _||_, false≢true}
+use mathlib.Core.List.{List}
 use Prim.Native.Nat.{ℕ}
 use lib.Dec.{eqb, ltb}
+use lib.ListN.{length, getD}
 use Rattle.lemmas.proofs.Booleans.{by-cases, first-of, second-of}
 use Rattle.geometry.specs.Coordinates.{pointOf}
 use Rattle.geometry.specs.Clip.{rectOf, inRect, placeOf}
 use Rattle.geometry.specs.Line.{lineCount, lineVisit}
-use Rattle.geometry.specs.Blit.{blitCount, blitCell, cellVisit}
+use Rattle.geometry.specs.Blit.{cellVisit}
+use Rattle.geometry.specs.Visible.{visibleCount, visibleCell}
 use Rattle.geometry.specs.declared.Cell.{Cell}
+use Rattle.geometry.specs.declared.Cell.the-variants.{Past as CellPast}
 use Rattle.geometry.specs.declared.Extent.{Extent}
 use Rattle.geometry.specs.declared.Point.{Point}
 use Rattle.geometry.specs.declared.Rect.{Rect}
@@ -20,9 +23,11 @@ use Rattle.geometry.specs.declared.Visit.{Visit}
 use Rattle.geometry.specs.declared.Visit.the-variants.{At as VisitAt, Past}
 use Rattle.entries.specs.Fields.{isBlit, isLine, draws, isTrigger}
 use Rattle.entries.specs.declared.fields.Command.{Command}
-use Rattle.commands.specs.Visits.{commandIn, lineStart, countOf, cellAt, positionOf, clippedOut, throughTo, targetFrom}
+use Rattle.registers.specs.declared.file.Registers.{Registers}
+use Rattle.commands.specs.Visits.{commandIn, lineStart, clippedOut, windowIn, shows, cellsBy, countBy, countOf, cellBy, cellAt, positionOf, throughTo, targetFrom}
 use Rattle.commands.specs.Steps.{inDashes, setsPattern}
 use Rattle.commands.specs.declared.Engine.{Engine}
+use Rattle.commands.proofs.Shown.{shown-count, shown-cell}
 
 -- c is the decoded command
 module _ (e : Engine) (c : Command) (p : c ≡ commandIn e) where
@@ -34,7 +39,7 @@ module _ (e : Engine) (c : Command) (p : c ≡ commandIn e) where
   test-is f t q b r = flag-is f b (sym q ∙ r)
 
   pub clip-is : (r : Rect) (t : Bool) (at : Point) → r ≡ rectOf (e .registers .clptl) (e .registers .clpbr) → t ≡ inRect r at → (b : Bool)
-      → (c .clip && not t) ≡ b → clippedOut e at ≡ b
+      → (c .clip && not t) ≡ b → clippedOut (e .registers) at ≡ b
   clip-is r t at q s b h =
       ap₂ (λ (c : Command) t. c .clip && not t) (sym p) (ap (λ r. inRect r at) (sym q) ∙ sym s) ∙ h
 
@@ -52,30 +57,28 @@ module _ (extent : Extent) (e : Engine) where
   abbrev lineTo : ℕ
   lineTo = lineCount (pointOf (lineStart e)) (pointOf (e .registers .xy1)) (commandIn e .nlst)
 
-  pub count-blit : isBlit (commandIn e) ≡ true → blitCount (e .registers .xy2) ≡ countOf extent e
-  unfolding countOf
-  count-blit h = first-of (isBlit (commandIn e)) (blitCount (e .registers .xy2)) (cond (isLine (commandIn e)) lineTo 0) h
+  -- the cells that a blit shows
+  abbrev shown : List Cell
+  shown = cellsBy shows extent (e .registers)
+
+  pub count-blit : isBlit (commandIn e) ≡ true
+      → visibleCount (pointOf (e .registers .xy1)) (e .registers .xy2) (e .registers .xy3) (windowIn extent (e .registers))
+      ≡ countOf extent e
+  unfolding countBy
+  count-blit h =
+      shown-count extent (e .registers) ∙ first-of (isBlit (commandIn e)) (length shown) (cond (isLine (commandIn e)) lineTo 0) h
 
   pub count-line : isBlit (commandIn e) ≡ false → isLine (commandIn e) ≡ true → lineTo ≡ countOf extent e
-  unfolding countOf
+  unfolding countBy
   count-line h k =
       first-of (isLine (commandIn e)) lineTo 0 k
-      ∙ second-of (isBlit (commandIn e)) (blitCount (e .registers .xy2)) (cond (isLine (commandIn e)) lineTo 0) h
+      ∙ second-of (isBlit (commandIn e)) (length shown) (cond (isLine (commandIn e)) lineTo 0) h
 
   pub count-none : isBlit (commandIn e) ≡ false → isLine (commandIn e) ≡ false → 0 ≡ countOf extent e
-  unfolding countOf
+  unfolding countBy
   count-none h k =
       second-of (isLine (commandIn e)) lineTo 0 k
-      ∙ second-of (isBlit (commandIn e)) (blitCount (e .registers .xy2)) (cond (isLine (commandIn e)) lineTo 0) h
-
-  -- a command that is no blit visits no pixel where it is no line, or an empty one
-  pub empty-line : isBlit (commandIn e) ≡ false → (t none : Bool) → t ≡ isLine (commandIn e) → none ≡ eqb lineTo 0
-      → (not t || none) ≡ eqb (countOf extent e) 0
-  empty-line h t none q r = by t q
-    where
-      by : (t : Bool) → t ≡ isLine (commandIn e) → (not t || none) ≡ eqb (countOf extent e) 0
-      by true q = r ∙ ap (λ n. eqb n 0) (count-line h (sym q))
-      by false q = ap (λ n. eqb n 0) (count-none h (sym q))
+      ∙ second-of (isBlit (commandIn e)) (length shown) (cond (isLine (commandIn e)) lineTo 0) h
 
   -- a command with pixels to visit is a blit or a line
   pub pixels-draw : ltb 0 (countOf extent e) ≡ true → draws (commandIn e) ≡ true
@@ -85,13 +88,15 @@ module _ (extent : Extent) (e : Engine) where
       by-cases (isLine (commandIn e)) (λ u. ap₂ _||_ t u)
       (λ u. absurd (false≢true (ap (ltb 0) (count-none t u) ∙ h))))
 
-  pub cell-blit : (k : ℕ) → isBlit (commandIn e) ≡ true → blitCell (e .registers .xy2) k ≡ cellAt extent e k
-  unfolding cellAt
-  cell-blit k h = first-of (isBlit (commandIn e)) (blitCell (e .registers .xy2) k) CellPast h
+  pub cell-blit : (k : ℕ) → isBlit (commandIn e) ≡ true
+      → visibleCell (pointOf (e .registers .xy1)) (e .registers .xy2) (e .registers .xy3) (windowIn extent (e .registers)) k
+      ≡ cellAt extent e k
+  unfolding cellBy
+  cell-blit k h = shown-cell extent (e .registers) k ∙ first-of (isBlit (commandIn e)) (getD shown k CellPast) CellPast h
 
   pub cell-none : (k : ℕ) → isBlit (commandIn e) ≡ false → CellPast ≡ cellAt extent e k
-  unfolding cellAt
-  cell-none k h = second-of (isBlit (commandIn e)) (blitCell (e .registers .xy2) k) CellPast h
+  unfolding cellBy
+  cell-none k h = second-of (isBlit (commandIn e)) (getD shown k CellPast) CellPast h
 
 module _ (e : Engine) (k : ℕ) (cell : Cell) where
   abbrev onBlit : Visit
@@ -118,12 +123,12 @@ module _ (e : Engine) (k : ℕ) (cell : Cell) where
 
 -- a visit that was looked at decides where it goes
 pub target-by : (extent : Extent) (e : Engine) (k : ℕ) (cell : Cell) (v w : Visit) → v ≡ positionOf e k cell → v ≡ w
-    → throughTo extent e w ≡ targetFrom extent e k cell
-target-by extent e k cell v w p q = ap (throughTo extent e) (sym q ∙ p)
+    → throughTo extent (e .registers) w ≡ targetFrom extent e k cell
+target-by extent e k cell v w p q = ap (throughTo extent (e .registers)) (sym q ∙ p)
 
-pub clipped : (extent : Extent) (e : Engine) (at : Point) → clippedOut e at ≡ true → Outside ≡ throughTo extent e (VisitAt at)
-clipped extent e at h = first-of (clippedOut e at) Outside (placeOf extent at) h
+pub clipped : (extent : Extent) (g : Registers) (at : Point) → clippedOut g at ≡ true → Outside ≡ throughTo extent g (VisitAt at)
+clipped extent g at h = first-of (clippedOut g at) Outside (placeOf extent at) h
 
-pub unclipped : (extent : Extent) (e : Engine) (at : Point) (q : Place) → q ≡ placeOf extent at → clippedOut e at ≡ false
-    → q ≡ throughTo extent e (VisitAt at)
-unclipped extent e at q p h = p ∙ second-of (clippedOut e at) Outside (placeOf extent at) h
+pub unclipped : (extent : Extent) (g : Registers) (at : Point) (q : Place) → q ≡ placeOf extent at → clippedOut g at ≡ false
+    → q ≡ throughTo extent g (VisitAt at)
+unclipped extent g at q p h = p ∙ second-of (clippedOut g at) Outside (placeOf extent at) h

@@ -1,11 +1,12 @@
 -- P9 and P10 (01, Boards to check): a copy of four pixels within the display, on a board of one row of six. And lines in
--- dashes that a clip hides in part (02, R-1), on one row of eight. And blits from bits (02, R-2), on one row of four.
+-- dashes that a clip hides in part (02, R-1), on one row of eight. And blits from bits (02, R-2), on one row of four. And blits
+-- that show in part (02, R-6).
 use mathlib.Core.Path.{_≡_}
 use mathlib.Core.Bool.{true, false}
 use mathlib.Core.List.{List, [], _∷_}
 use Prim.Native.Nat.{ℕ}
 use Rattle.geometry.specs.declared.Extent.{Extent}
-use Rattle.commands.specs.Steps.{Scene, scene, visitsOf}
+use Rattle.commands.specs.Steps.{Scene, scene, visitsOf, enteredOf}
 use Rattle.commands.specs.declared.Engine.{Engine}
 
 -- Buffers of one row.
@@ -139,3 +140,20 @@ ReadsAsItStands = stippled (blitting 0x1320_0000 0x0000_0000 0x0000_0000 0) ≡ 
 
 abbrev pub R2 : Type 0
 R2 = Opaque × Transparent × FromRightToLeft × OutsideDrawsNothing × SolidReadsNothing × ReadsAsItStands
+
+-- Blits that show in part (02, R-6), on one row of six: of a copy of four pixels to columns -2 to 1 the last two are visited, and
+-- read from columns 2 and 3; with them the copy has finished.
+abbrev pub FromTheLeft : Type 0
+FromTheLeft =
+    let s = visitsOf 2 (rowOf 6) (scene (blitting 0x1300_0000 0x0000_0000 0xFFFE_0000 0) row row) in
+    (s .display ≡ (3 ∷ 4 ∷ 3 ∷ 4 ∷ 5 ∷ 0 ∷ []))
+    × (s .engine .«under_way» ≡ false)
+
+-- A copy to columns 6 to 9 has nothing to show: it ends at its trigger, which sets the last point.
+abbrev pub NothingShows : Type 0
+NothingShows =
+    let e = enteredOf (rowOf 6) (blitting 0x1300_0000 0x0000_0000 0x0000_0000 0) (record { register = 12; spare = 0; word = 0x0006_0000 }) in
+    (e .«under_way» ≡ false) × (e .last ≡ 0x0006_0000)
+
+abbrev pub R6 : Type 0
+R6 = FromTheLeft × NothingShows

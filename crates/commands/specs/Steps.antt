@@ -17,7 +17,7 @@ use Rattle.registers.specs.Patterns.{startOf, nextOf, movesOf}
 use Rattle.registers.specs.declared.dashes.Pattern.{Pattern}
 use Rattle.sources.specs.declared.Source.{Source}
 use Rattle.sources.specs.declared.Source.the-variants.{Value, Nothing}
-use Rattle.commands.specs.Visits.{commandIn, countOf, targetOf, sourceAt}
+use Rattle.commands.specs.Visits.{commandIn, Rule, shows, countBy, cellBy, targetFrom, targetOf, sourceFrom}
 use Rattle.commands.specs.declared.Engine.{Engine}
 
 -- An engine with its two picture buffers.
@@ -59,9 +59,9 @@ patternAfter e = cond (inDashes (commandIn e)) (nextOf (patternControlOf (e .reg
 
 -- One pixel fewer to visit; "The last point is XY1 of the latest finished command .. it is set in the step that visits
 -- the command's last pixel".
-unfoldable pub advancedOf : Extent → Engine → Engine
-advancedOf extent e =
-    cond (ltb (e .visited + 1) (countOf extent e))
+unfoldable pub advancedBy : Rule → Extent → Engine → Engine
+advancedBy rule extent e =
+    cond (ltb (e .visited + 1) (countBy rule extent e))
     (record {
       «under_way» = true;
       visited = e .visited + 1;
@@ -77,22 +77,32 @@ advancedOf extent e =
       last = e .registers .xy1;
     })
 
+abbrev pub advancedOf : Extent → Engine → Engine
+advancedOf extent e = advancedBy shows extent e
+
 -- One pixel visited.
-unfoldable pub visitOf : Extent → Scene → Scene
-visitOf extent s =
+unfoldable pub visitBy : Rule → Extent → Scene → Scene
+visitBy rule extent s =
     let e = s .engine in
-    let place = targetOf extent e (e .visited) in
-    let source = sourceAt extent e (e .visited) (s .display) (s .virt) in
+    let cell = cellBy rule extent e (e .visited) in
+    let place = targetFrom extent e (e .visited) cell in
+    let source = sourceFrom extent e cell (s .display) (s .virt) in
     record {
-      engine = advancedOf extent e;
+      engine = advancedBy rule extent e;
       display = cond (commandIn e .«to_virtual») (s .display) (inked e source place (s .display));
       virt = cond (commandIn e .«to_virtual») (inked e source place (s .virt)) (s .virt);
     }
 
+abbrev pub visitOf : Extent → Scene → Scene
+visitOf extent s = visitBy shows extent s
+
 -- n pixels visited, one after the other.
-unfoldable pub visitsOf : ℕ → Extent → Scene → Scene
-visitsOf zero extent s = s
-visitsOf (suc n) extent s = visitOf extent (visitsOf n extent s)
+unfoldable pub visitsBy : Rule → ℕ → Extent → Scene → Scene
+visitsBy rule zero extent s = s
+visitsBy rule (suc n) extent s = visitBy rule extent (visitsBy rule n extent s)
+
+abbrev pub visitsOf : ℕ → Extent → Scene → Scene
+visitsOf n extent s = visitsBy shows n extent s
 
 -- The pattern state that an entry leaves: "SPTR and SSCL on writing PCTRL, and at a line's trigger with PRST".
 abbrev pub setsPattern : ℕ → Engine → Bool
@@ -102,8 +112,8 @@ abbrev pub patternSet : ℕ → Engine → Pattern
 patternSet number e = cond (setsPattern number e) (startOf (patternControlOf (e .registers .pctrl))) (e .pattern)
 
 -- The last point is set "at the trigger where there is none to visit", "NOOP not counted".
-abbrev pub finishes : Extent → ℕ → Engine → Bool
-finishes extent number e = triggers number (commandIn e) && eqb (countOf extent e) 0
+abbrev pub finishes : Rule → Extent → ℕ → Engine → Bool
+finishes rule extent number e = triggers number (commandIn e) && eqb (countBy rule extent e) 0
 
 -- An engine with an entry's word in its register.
 abbrev pub withWord : Engine → Entry → Engine
@@ -116,22 +126,31 @@ withWord e entry =
       last = e .last;
     }
 
-abbrev pub triggeredOf : Extent → ℕ → Engine → Engine
-triggeredOf extent number e =
+abbrev pub triggeredBy : Rule → Extent → ℕ → Engine → Engine
+triggeredBy rule extent number e =
     record {
-      «under_way» = triggers number (commandIn e) && ltb 0 (countOf extent e);
+      «under_way» = triggers number (commandIn e) && ltb 0 (countBy rule extent e);
       visited = 0;
       registers = e .registers;
       pattern = patternSet number e;
-      last = cond (finishes extent number e) (e .registers .xy1) (e .last);
+      last = cond (finishes rule extent number e) (e .registers .xy1) (e .last);
     }
 
-unfoldable pub enteredOf : Extent → Engine → Entry → Engine
-enteredOf extent e entry = triggeredOf extent (entry .register) (withWord e entry)
+abbrev pub triggeredOf : Extent → ℕ → Engine → Engine
+triggeredOf extent number e = triggeredBy shows extent number e
+
+unfoldable pub enteredBy : Rule → Extent → Engine → Entry → Engine
+enteredBy rule extent e entry = triggeredBy rule extent (entry .register) (withWord e entry)
+
+abbrev pub enteredOf : Extent → Engine → Entry → Engine
+enteredOf extent e entry = enteredBy shows extent e entry
 
 -- One entry taken.
+abbrev pub takenBy : Rule → Extent → Scene → Entry → Scene
+takenBy rule extent s entry = scene (enteredBy rule extent (s .engine) entry) (s .display) (s .virt)
+
 abbrev pub takenOf : Extent → Scene → Entry → Scene
-takenOf extent s entry = scene (enteredOf extent (s .engine) entry) (s .display) (s .virt)
+takenOf extent s entry = takenBy shows extent s entry
 
 -- What holds of every visit; proved in proofs/Visiting.antt. Buffers keep their lengths.
 abbrev pub KeepsLengths : Type 0

@@ -5,4 +5,6 @@ pub mod Windows
 pub mod Lines
 pub mod LineRule
 pub mod Blits
+pub mod Visibility
+pub mod Stretches
 pub mod Examples

@@ -1,9 +1,11 @@
 -- The pixels of a blit (01, Pixels), from the corner that the direction asks for (003, 6.2).
 use mathlib.Core.Path.{_≡_}
 use mathlib.Core.Bool.{Bool, cond}
+use mathlib.Core.List.{List, map}
 use Prim.Native.Nat.{ℕ, _+_, _-_, _*_, _/_, _%_, _<_}
 use lib.Dec.{eqb, ltb}
 use lib.IntN.{ℤ, pos, _+ℤ_, _-ℤ_}
+use Rattle.lemmas.specs.Numbers.{below}
 use Rattle.geometry.specs.Coordinates.{wholeOf, signed16, pointOf}
 use Rattle.geometry.specs.declared.Point.{Point}
 use Rattle.geometry.specs.declared.Cell.{Cell}
@@ -41,6 +43,9 @@ rowOf size k = k / widthOf size
 
 unfoldable pub blitCell : ℕ → ℕ → Cell
 blitCell size k = cond (ltb k (blitCount size)) (CellAt (columnOf size k) (rowOf size k)) CellPast
+
+abbrev pub blitCells : ℕ → List Cell
+blitCells size = map (blitCell size) (below (blitCount size))
 
 -- The pixel of a cell, from a corner on; source and destination have the same cells.
 abbrev pub cellPoint : Point → ℕ → ℕ → ℕ → Point

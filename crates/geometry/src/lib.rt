@@ -1,14 +1,19 @@
 // Where pixels lie: coordinates, the clip rectangle, the place of a pixel in its buffer, and the pixels that a line and
 // a blit visit (document 01, Entry layout and Pixels).
+mod visible;
+
 ghost use mathlib.Core.Path.{_≡_};
 ghost use Prim.Native.Nat.{_<_, _≤_};
 ghost use lib.Dec.{eqb};
 ghost use Rattle.geometry.specs.Coordinates.{coordinateOf, pointOf};
-ghost use Rattle.geometry.specs.Clip.{rectOf, inRect, windowOf, placeOf};
+ghost use Rattle.geometry.specs.Clip.{rectOf, inRect, windowOf, inWindow, placeOf};
 ghost use Rattle.geometry.specs.Line.{distance, stepsOf, lineCount, nearestOf, lineVisit};
 ghost use Rattle.geometry.specs.Blit.{blitCount, blitCell, away, cellVisit};
 use numbers::max;
 use numbers::min;
+pub use visible::Range;
+pub use visible::visible_count;
+pub use visible::visible_index;
 
 // Coordinates are held 98,304 up: this is the coordinate 0.
 pub const ORIGIN: usize = 98304;
@@ -77,6 +82,14 @@ pub struct Window {
     pub right: usize,
     pub top: usize,
     pub bottom: usize,
+}
+
+impl Window {
+    pub(crate) fn contains(self, p: Point) -> bool
+        ensures { λ r. ⌜ r ≡ inWindow self p ⌝ }
+    {
+        (self.left <= p.x) & (p.x < self.right) & (self.top <= p.y) & (p.y < self.bottom)
+    }
 }
 
 // The window of a buffer, and of the clip rectangle where `clip` is set.
@@ -157,13 +170,6 @@ pub fn line_count(from: u32, to: u32, skip_last: bool) -> usize
 {
     let n = line_steps(from, to);
     if skip_last { n } else { n + 1 }
-}
-
-// Whether a line visits no pixel.
-pub fn line_is_empty(from: u32, to: u32, skip_last: bool) -> bool
-    ensures { λ r. ⌜ r ≡ eqb (lineCount (pointOf from) (pointOf to) «skip_last») 0 ⌝ }
-{
-    skip_last & (from == to)
 }
 
 // One coordinate of pixel i of a line of n steps from a to b.

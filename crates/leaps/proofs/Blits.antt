@@ -21,26 +21,24 @@ use Rattle.geometry.specs.declared.Place.{Place}
 use Rattle.geometry.specs.declared.Place.the-variants.{At, Outside}
 use Rattle.geometry.specs.declared.Visit.the-variants.{At as VisitAt}
 use Rattle.geometry.proofs.Blits.{cell-visit}
+use Rattle.geometry.proofs.Stretches.{visible-lt}
 use Rattle.geometry.proofs.Windows.{window-lets-through}
 use Rattle.rows.specs.Rows.{mixed}
 use Rattle.stipples.specs.Stipples.{bitAt, stippled}
 use Rattle.blits.specs.Blits.{painted, reads, sourcePixels, visited}
 use Rattle.blits.specs.declared.Paint.{Paint}
 use Rattle.blits.specs.declared.Paint.the-variants.{Solid, Copied, Moved, Stippled, StippledWithin}
-use Rattle.commands.specs.Visits.{commandIn, countOf, cellAt, visitAt, clippedOut, throughTo, targetOf, sourceAt}
+use Rattle.commands.specs.Visits.{commandIn, windowIn, countOf, cellAt, visitAt, clippedOut, throughTo, targetOf, sourceAt}
 use Rattle.commands.proofs.Tests.{count-blit, cell-blit, position-blit}
 use Rattle.sources.proofs.Reading.{source-solid, source-read}
 use Rattle.entries.specs.Fields.{isBlit}
 use Rattle.sources.specs.Sources.{keyed, readAt, copiedAt, copiedOf, byBit, bitOf, stippledAt, stippledOf, readOf}
 use Rattle.commands.specs.Steps.{inked}
-use Rattle.leaps.specs.Leaps.{penIn, mixIn, stippleIn, fromOther, fromOwn, paintOf, blitIn, windowIn}
+use Rattle.leaps.specs.Leaps.{penIn, mixIn, stippleIn, fromOther, fromOwn, paintOf, blitIn, indexOf}
 use Rattle.commands.specs.declared.Engine.{Engine}
 use Rattle.sources.specs.declared.Source.{Source}
 use Rattle.sources.specs.declared.Source.the-variants.{Value, Nothing}
 use Rattle.geometry.specs.declared.Extent.{Extent}
-
-pub count-is : (extent : Extent) (e : Engine) → isBlit (commandIn e) ≡ true → countOf extent e ≡ blitCount (e .registers .xy2)
-count-is extent e h = sym (count-blit extent e h)
 
 -- a place, by two tests and by one
 one-test : (t u : Bool) (p : Place) → cond t Outside (cond u p Outside) ≡ cond (not t && u) p Outside
@@ -49,32 +47,37 @@ one-test false u p = refl
 
 -- the place of a visit that lies at a point
 pub place-of-visit : (extent : Extent) (e : Engine) (k : ℕ) (p : Point) → visitAt extent e k ≡ VisitAt p
-    → targetOf extent e k ≡ cond (inWindow (windowIn extent e) p) (At (placeIn (extent .width) p)) Outside
+    → targetOf extent e k ≡ cond (inWindow (windowIn extent (e .registers)) p) (At (placeIn (extent .width) p)) Outside
 unfolding placeOf
 place-of-visit extent e k p h =
-    ap (throughTo extent e) h ∙ one-test (clippedOut e p) (inBuffer (extent .width) (extent .height) p) (At (placeIn (extent .width) p))
+    ap (throughTo extent (e .registers)) h ∙ one-test (clippedOut (e .registers) p) (inBuffer (extent .width) (extent .height) p) (At (placeIn (extent .width) p))
     ∙ ap (λ t. cond t (At (placeIn (extent .width) p)) Outside)
     (sym (window-lets-through extent (commandIn e .clip) (e .registers .clptl) (e .registers .clpbr) p))
 
 module _ (extent : Extent) (e : Engine) (k : ℕ) (blit : isBlit (commandIn e) ≡ true) (few : k < countOf extent e) where
+  abbrev index : ℕ
+  index = indexOf (windowIn extent (e .registers)) (e .registers) k
+
   abbrev target : Point
-  target = blitPoint (pointOf (e .registers .xy1)) (e .registers .xy2) (e .registers .xy3) k
+  target = blitPoint (pointOf (e .registers .xy1)) (e .registers .xy2) (e .registers .xy3) index
 
   abbrev source : Point
-  source = blitPoint (pointOf (e .registers .xy0)) (e .registers .xy2) (e .registers .xy3) k
+  source = blitPoint (pointOf (e .registers .xy0)) (e .registers .xy2) (e .registers .xy3) index
 
   abbrev seen : Bool
-  seen = inWindow (windowIn extent e) target
+  seen = inWindow (windowIn extent (e .registers)) target
 
-  below : k < blitCount (e .registers .xy2)
-  below = omega (arith, few, count-is extent e blit)
+  below : index < blitCount (e .registers .xy2)
+  below =
+      let g = e .registers in
+      visible-lt (pointOf (g .xy1)) (g .xy2) (g .xy3) (windowIn extent g) k (omega (arith, few, count-blit extent e blit))
 
   -- the cell's pixel, from a corner on
   from-corner : (corner : ℕ)
-      → cellVisit (pointOf corner) (e .registers .xy3) (cellAt extent e k) ≡ VisitAt (blitPoint (pointOf corner) (e .registers .xy2) (e .registers .xy3) k)
+      → cellVisit (pointOf corner) (e .registers .xy3) (cellAt extent e k) ≡ VisitAt (blitPoint (pointOf corner) (e .registers .xy2) (e .registers .xy3) index)
   from-corner corner =
       ap (cellVisit (pointOf corner) (e .registers .xy3)) (sym (cell-blit extent e k blit))
-      ∙ cell-visit (pointOf corner) (e .registers .xy2) (e .registers .xy3) k below
+      ∙ cell-visit (pointOf corner) (e .registers .xy2) (e .registers .xy3) index below
 
   visit-is : visitAt extent e k ≡ VisitAt target
   visit-is = sym (position-blit e k (cellAt extent e k) blit) ∙ from-corner (e .registers .xy1)
@@ -236,7 +239,7 @@ module _ (extent : Extent) (e : Engine) (k : ℕ) (blit : isBlit (commandIn e) �
 
   -- the mark on the buffer that is drawn on, beside the other one
   abbrev Marks : Source → List ℕ → List ℕ → Type 0
-  Marks s own other = inked e s (targetOf extent e k) own ≡ visited (blitIn extent e) other k own
+  Marks s own other = inked e s (targetOf extent e k) own ≡ visited (blitIn extent e) other (index extent e k blit few) own
 
   marks-as : (paint : Paint) (s : Source) (own other : List ℕ) → paintOf e ≡ paint
       → inked e s (targetOf extent e k) own ≡ marked paint other own → Marks s own other

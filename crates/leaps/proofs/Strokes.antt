@@ -24,7 +24,7 @@ use Rattle.registers.specs.Patterns.{patternBit}
 use Rattle.registers.specs.declared.dashes.Pattern.{Pattern}
 use Rattle.strokes.specs.Strokes.{plotted, pixelsOf, windowFits, strokeFits, strokeOf, Dashed, dashed, dash, dashPixels, dashesOf}
 use Rattle.strokes.proofs.Drawn.{stroke-fit, dashes-fit}
-use Rattle.commands.specs.Visits.{commandIn, lineStart, countOf, cellAt, visitAt, targetOf, sourceAt}
+use Rattle.commands.specs.Visits.{commandIn, lineStart, windowIn, countOf, cellAt, visitAt, targetOf, sourceAt}
 use Rattle.commands.proofs.Tests.{count-line, position-line}
 use Rattle.sources.proofs.Reading.{source-solid, source-dash}
 use Rattle.entries.specs.Fields.{isBlit, isLine}
@@ -32,7 +32,7 @@ use Rattle.sources.specs.Sources.{dashOf}
 use Rattle.commands.specs.Steps.{inked, patternAfter, visitsOf}
 use Rattle.commands.specs.declared.Engine.{Engine}
 use Rattle.sources.specs.declared.Source.the-variants.{Value, Nothing}
-use Rattle.leaps.specs.Leaps.{movedTo, movedBy, penIn, dashesIn, windowIn, strokeIn, canLeap, goesByStroke}
+use Rattle.leaps.specs.Leaps.{movedTo, movedBy, penIn, dashesIn, strokeIn, canLeap, goesByStroke}
 use Rattle.leaps.proofs.Visiting.{sceneOn, Marked, visits-are, Leaps, leaps-of}
 use Rattle.leaps.proofs.Blits.{place-of-visit, code-small, ink-value}
 use Rattle.geometry.specs.declared.Extent.{Extent}
@@ -49,11 +49,11 @@ count-is extent e h = sym (count-line extent e (not-blit (commandIn e) h) h)
 
 -- the mark of a value is a pixel plotted with its pen
 ink-plots : (extent : Extent) (e : Engine) (v : ℕ) (p : Point) (l : List ℕ) →
-    let w = windowIn extent e in
+    let w = windowIn extent (e .registers) in
     inked e (Value v) (cond (inWindow w p) (At (placeIn (extent .width) p)) Outside) l ≡ plotted (extent .width) w (penIn e v) p l
 unfolding plotted
 ink-plots extent e v p l =
-    let w = windowIn extent e in
+    let w = windowIn extent (e .registers) in
     let i = placeIn (extent .width) p in
     ink-value e v (inWindow w p) i l
     ∙ ap (λ x. cond (inWindow w p) (set l i x) l) (sym (pen-as (commandIn e .code) (e .registers .mask) (code-small e) v (getD l i 0)))
@@ -63,7 +63,7 @@ module _ (extent : Extent) (e : Engine) (line : isLine (commandIn e) ≡ true) w
   point k = linePoint (pointOf (lineStart e)) (pointOf (e .registers .xy1)) (e .visited + k)
 
   abbrev window : Window
-  window = windowIn extent e
+  window = windowIn extent (e .registers)
 
   module _ (k : ℕ) (q : Pattern) (few : e .visited + k < countOf extent e) where
     abbrev here : Engine
@@ -195,7 +195,7 @@ window-fits extent false a b long tall e =
     (le-leb ((origin + height - origin) * width) long (rw e (bounded width height (origin + height) (omega arith))))
 
 stroke-fits : (extent : Extent) (e : Engine) (n display virt long : ℕ) → Goes extent e n display virt → long ≡ extent .width * extent .height
-    → strokeFits (extent .width) (windowIn extent e) (pointOf (lineStart e)) (pointOf (e .registers .xy1)) (e .visited) n long ≡ true
+    → strokeFits (extent .width) (windowIn extent (e .registers)) (pointOf (lineStart e)) (pointOf (e .registers .xy1)) (e .visited) n long ≡ true
 stroke-fits extent e n display virt long g h =
     let a = pointOf (lineStart e) in
     let b = pointOf (e .registers .xy1) in
@@ -221,7 +221,7 @@ module _ (extent : Extent) (e : Engine) (n display virt : ℕ) (g : Goes extent 
   stroke-is h =
       let a = pointOf (lineStart e) in
       let b = pointOf (e .registers .xy1) in
-      let w = windowIn extent e in
+      let w = windowIn extent (e .registers) in
       let pen = penIn e (e .registers .fore) in
       let fit = stroke-fits extent e n display virt (length own) g own-long in
       let line = dashed (strokeOf (extent .width) w pen a b (e .visited) n own) (e .pattern) in
@@ -242,7 +242,7 @@ and-first false b e t = absurd (false≢true t)
 -- the two kinds of strokes, by the decoded command
 module _ (extent : Extent) (e : Engine) (c : Command) (is : c ≡ commandIn e) (n : ℕ) (l : List ℕ) where
   pub stroke-solid : c .solid ≡ true → (m : List ℕ)
-      → m ≡ strokeOf (extent .width) (windowIn extent e) (penIn e (e .registers .fore)) (pointOf (lineStart e)) (pointOf (e .registers .xy1)) (e .visited) n l
+      → m ≡ strokeOf (extent .width) (windowIn extent (e .registers)) (penIn e (e .registers .fore)) (pointOf (lineStart e)) (pointOf (e .registers .xy1)) (e .visited) n l
       → dashed m (e .pattern) ≡ strokeIn extent e n l
   unfolding strokeIn
   stroke-solid s m h =
@@ -250,7 +250,7 @@ module _ (extent : Extent) (e : Engine) (c : Command) (is : c ≡ commandIn e) (
       rw t (ap (λ m. dashed m (e .pattern)) h)
 
   pub stroke-dashes : c .solid ≡ false → (r : Dashed)
-      → r ≡ dashesOf (extent .width) (windowIn extent e) (dashesIn e) (pointOf (lineStart e)) (pointOf (e .registers .xy1)) (e .visited) n (dashed l (e .pattern))
+      → r ≡ dashesOf (extent .width) (windowIn extent (e .registers)) (dashesIn e) (pointOf (lineStart e)) (pointOf (e .registers .xy1)) (e .visited) n (dashed l (e .pattern))
       → r ≡ strokeIn extent e n l
   unfolding strokeIn
   stroke-dashes s r h = let t : commandIn e .solid ≡ false = ap (λ (c : Command). c .solid) (sym is) ∙ s in rw t h

@@ -10,8 +10,8 @@ use lib.Dec.{eqb, ltb, leb}
 use Rattle.lemmas.proofs.Booleans.{by-cases, and-left, and-right}
 use Rattle.registers.specs.declared.dashes.Pattern.{Pattern}
 use Rattle.strokes.specs.Strokes.{Dashed}
-use Rattle.commands.specs.Visits.{commandIn, countOf, targetOf, sourceAt}
-use Rattle.commands.specs.Steps.{Scene, scene, inked, patternAfter, advancedOf, visitOf, visitsOf}
+use Rattle.commands.specs.Visits.{commandIn, shows, countOf, targetOf, sourceAt}
+use Rattle.commands.specs.Steps.{Scene, scene, inked, patternAfter, advancedBy, advancedOf, visitBy, visitOf, visitsBy, visitsOf}
 use Rattle.commands.specs.declared.Engine.{Engine}
 use Rattle.commands.proofs.Bounds.{count-same}
 use Rattle.leaps.specs.Leaps.{movedTo, finishedAt, movedBy, canLeap}
@@ -25,7 +25,7 @@ visit-on : (extent : Extent) (f : Engine) (to : Bool) (own other : List ℕ) →
     let at = targetOf extent f (f .visited) in
     let s = sourceAt extent f (f .visited) (cond to other own) (cond to own other) in
     visitOf extent (sceneOn f to own other) ≡ sceneOn (advancedOf extent f) to (inked f s at own) other
-unfolding visitOf
+unfolding visitBy
 visit-on extent f true own other v =
     let at = targetOf extent f (f .visited) in
     let s = sourceAt extent f (f .visited) other own in
@@ -54,14 +54,14 @@ module _ (extent : Extent) (e : Engine) where
 
   advance : (m : ℕ) (q : Pattern) → e .visited + m < countOf extent e
       → advancedOf extent (movedTo e m q) ≡ movedBy extent e (suc m) (patternAfter (movedTo e m q))
-  unfolding advancedOf movedBy
+  unfolding advancedBy movedBy
   advance m q h =
       let f = movedTo e m q in
       let p = patternAfter f in
       let next : e .visited + m + 1 ≡ e .visited + suc m = omega arith in
       let moved : ℕ → Engine = λ k. record { «under_way» = true; visited = k; registers = e .registers; pattern = p; last = e .last } in
       ap (λ t. cond t (moved (e .visited + m + 1)) (finishedAt e p))
-      (ap (ltb (e .visited + m + 1)) (count-same extent f e refl refl) ∙ same-test (e .visited) m (countOf extent e) h)
+      (ap (ltb (e .visited + m + 1)) (count-same shows extent f e refl refl) ∙ same-test (e .visited) m (countOf extent e) h)
       ∙ ap (λ k. cond (ltb (suc m) (countOf extent e - e .visited)) (moved k) (finishedAt e p)) next
 
   starts : e .«under_way» ≡ true → e ≡ movedTo e 0 (e .pattern)
@@ -83,7 +83,7 @@ module _ (extent : Extent) (e : Engine) where
         (first : t 0 .pattern ≡ e .pattern) (marked : Marked) where
       pub visits-are : (n : ℕ) → e .visited + n ≤ countOf extent e
           → visitsOf n extent (sceneOn e to (t 0 .buffer) other) ≡ sceneOn (movedBy extent e n (t n .pattern)) to (t n .buffer) other
-      unfolding visitsOf
+      unfolding visitsBy
       visits-are zero few =
           ap (λ f. sceneOn f to (t 0 .buffer) other)
           (starts under-way ∙ ap (movedTo e 0) (sym first) ∙ sym (moved-within 0 (t 0 .pattern) (omega (arith, some))))
@@ -98,6 +98,7 @@ module _ (extent : Extent) (e : Engine) where
 -- what lets visits be done at once
 pub record Leaps (extent : Extent) (e : Engine) (n display virt : ℕ) : Type 0 where
   pub under-way : e .«under_way» ≡ true
+  pub any : 0 < n
   pub some : e .visited < countOf extent e
   pub few : e .visited + n ≤ countOf extent e
   pub display-long : display ≡ extent .width * extent .height
@@ -108,17 +109,18 @@ unfolding canLeap
 leaps-of extent e n display virt h =
     let left = countOf extent e - e .visited in
     let c1 = e .«under_way» in
-    let c2 = ltb 0 left in
+    let c2 = ltb 0 n in
     let c3 = leb n left in
     let c4 = eqb display (extent .width * extent .height) in
     let c5 = eqb virt (extent .width * extent .height) in
     let h4 = and-left (c1 && c2 && c3 && c4) c5 h in
     let h3 = and-left (c1 && c2 && c3) c4 h4 in
     let h2 = and-left (c1 && c2) c3 h3 in
-    let some = ltb-true 0 left (and-right c1 c2 h2) in
+    let any = ltb-true 0 n (and-right c1 c2 h2) in
     let few = leb-true n left (and-right (c1 && c2) c3 h3) in
     record {
       under-way = and-left c1 c2 h2;
+      any = any;
       some = omega arith;
       few = omega arith;
       display-long = eqb-true display (extent .width * extent .height) (and-right (c1 && c2 && c3) c4 h4);

@@ -6,9 +6,11 @@ use lib.Dec.{eqb, leb, ltb}
 use Rattle.raster.specs.Selectors.{penOf, selectorsOf}
 use Rattle.raster.specs.declared.Pen.{Pen}
 use Rattle.geometry.specs.Coordinates.{pointOf}
-use Rattle.geometry.specs.Clip.{windowOf}
+use Rattle.geometry.specs.Blit.{blitCount}
+use Rattle.geometry.specs.Visible.{visibleIndex}
 use Rattle.geometry.specs.declared.Extent.{Extent}
 use Rattle.geometry.specs.declared.Window.{Window}
+use Rattle.geometry.specs.declared.visible.Range.{Range}
 use Rattle.rows.specs.declared.Mix.{Mix}
 use Rattle.stipples.specs.declared.Stipple.{Stipple}
 use Rattle.blits.specs.declared.Blit.{Blit}
@@ -16,16 +18,13 @@ use Rattle.blits.specs.declared.Paint.{Paint}
 use Rattle.blits.specs.declared.Paint.the-variants.{Solid, Copied, Moved, Stippled, StippledWithin}
 use Rattle.entries.specs.Fields.{patternControlOf, isBlit, isLine}
 use Rattle.registers.specs.declared.dashes.Pattern.{Pattern}
+use Rattle.registers.specs.declared.file.Registers.{Registers}
 use Rattle.strokes.specs.Strokes.{strokeOf, Dashed, dashed, dashesOf}
 use Rattle.strokes.specs.declared.Dashes.{Dashes}
-use Rattle.commands.specs.Visits.{commandIn, lineStart, countOf}
+use Rattle.commands.specs.Visits.{commandIn, lineStart, windowIn, countOf}
 use Rattle.commands.specs.declared.Engine.{Engine}
 
--- The window of clip and buffer, and the pen of a value. FORE, BACK, MASK and KEY are bytes where the registers are
--- legal.
-abbrev pub windowIn : Extent → Engine → Window
-windowIn extent e = windowOf extent (commandIn e .clip) (e .registers .clptl) (e .registers .clpbr)
-
+-- The pen of a value. FORE, BACK, MASK and KEY are bytes where the registers are legal.
 abbrev pub penIn : Engine → ℕ → Pen
 penIn e value = penOf (commandIn e .code) (value % 256) (e .registers .mask % 256)
 
@@ -64,13 +63,24 @@ blitIn extent e =
     record {
       width = extent .width;
       height = extent .height;
-      window = windowIn extent e;
+      window = windowIn extent (e .registers);
       from = e .registers .xy0;
       to = e .registers .xy1;
       size = e .registers .xy2;
       direction = e .registers .xy3;
       paint = paintOf e;
     }
+
+-- Visit k of those that the window shows is this one of all visits of the blit; and n visits of `count`, from the next one on,
+-- are those that show of a stretch of all visits: all of them, or from the first to the last of the n.
+abbrev pub indexOf : Window → Registers → ℕ → ℕ
+indexOf w g k = visibleIndex (pointOf (g .xy1)) (g .xy2) (g .xy3) w k
+
+unfoldable pub stretchOf : Window → Engine → ℕ → ℕ → Range
+stretchOf w e count n =
+    let g = e .registers in
+    cond (eqb n count) (record { from = 0; past = blitCount (g .xy2) })
+    (record { from = indexOf w g (e .visited); past = indexOf w g (e .visited + n - 1) + 1 })
 
 -- A line draws with FORE, or with FORE and BACK by its pattern.
 abbrev pub dashesIn : Engine → Dashes
@@ -88,7 +98,7 @@ unfoldable pub strokeIn : Extent → Engine → ℕ → List ℕ → Dashed
 strokeIn extent e n l =
     let a = pointOf (lineStart e) in
     let b = pointOf (e .registers .xy1) in
-    let w = windowIn extent e in
+    let w = windowIn extent (e .registers) in
     cond (commandIn e .solid) (dashed (strokeOf (extent .width) w (penIn e (e .registers .fore)) a b (e .visited) n l) (e .pattern))
     (dashesOf (extent .width) w (dashesIn e) a b (e .visited) n (dashed l (e .pattern)))
 
@@ -107,7 +117,7 @@ movedBy extent e n q = cond (ltb n (countOf extent e - e .visited)) (movedTo e n
 unfoldable pub canLeap : Extent → Engine → ℕ → ℕ → ℕ → Bool
 canLeap extent e n display virt =
     e .«under_way»
-    && ltb 0 (countOf extent e - e .visited)
+    && ltb 0 n
     && leb n (countOf extent e - e .visited)
     && eqb display (extent .width * extent .height)
     && eqb virt (extent .width * extent .height)

@@ -1,11 +1,12 @@
 // Many pixels of one command visited at once: rows of a blit, the stroke of a line.
 ghost use mathlib.Core.Path.{_≡_};
 ghost use mathlib.Core.Bool.{true, false};
+ghost use Prim.Native.Nat.{_+_, _≤_, _<_};
 ghost use lib.ListN.{length};
 ghost use Rattle.commands.specs.Visits.{commandIn, countOf};
 ghost use Rattle.commands.specs.Steps.{scene, visitsOf};
 ghost use Rattle.strokes.specs.Strokes.{dashed};
-ghost use Rattle.leaps.specs.Leaps.{mixIn, stippleIn, paintOf, blitIn, penIn, strokeIn, movedBy, canLeap, goesByRows, goesByStroke};
+ghost use Rattle.leaps.specs.Leaps.{mixIn, stippleIn, paintOf, blitIn, stretchOf, penIn, strokeIn, movedBy, canLeap, goesByRows, goesByStroke};
 use blits::Blit;
 use blits::Paint;
 use blits::draw_blit;
@@ -13,6 +14,10 @@ use commands::Engine;
 use entries::command_of;
 use entries::pattern_control_of;
 use geometry::Extent;
+use geometry::Range;
+use geometry::Window;
+use geometry::blit_count;
+use geometry::visible_index;
 use geometry::window_of;
 use numbers::saturating_sub;
 use raster::Pen;
@@ -86,12 +91,11 @@ fn blit(e: Engine, extent: Extent) -> Blit
     ensures { λ r. ⌜ r ≡ blitIn extent e ⌝ }
 {
     let g = e.registers;
-    let c = command_of(g.cmd);
     Blit {
         paint: paint(e),
         width: extent.width,
         height: extent.height,
-        window: window_of(extent, c.clip, g.clptl, g.clpbr),
+        window: e.window(extent),
         from: g.xy0,
         to: g.xy1,
         size: g.xy2,
@@ -130,7 +134,26 @@ fn can_leap(e: Engine, extent: Extent, count: usize, n: usize, display: usize, v
 {
     let area = (extent.width as usize) * (extent.height as usize);
     let left = saturating_sub(count, e.visited as usize);
-    e.under_way & (0 < left) & (n <= left) & (display == area) & (virt == area)
+    e.under_way & (0 < n) & (n <= left) & (display == area) & (virt == area)
+}
+
+// Of all visits of the blit in CMD, the stretch that n of the `count` visible ones lie in, from the next one on.
+fn stretch(e: Engine, window: Window, count: usize, n: usize) -> Range
+    requires { ⌜ (0 < n) × (e .visited + n ≤ count) ⌝ }
+    ensures { λ r. ⌜ r ≡ stretchOf window e count n ⌝ }
+{
+    let g = e.registers;
+    if n == count {
+        return Range {
+            from: 0,
+            past: blit_count(g.xy2),
+        };
+    }
+    let last = e.visited as usize + n - 1;
+    Range {
+        from: visible_index(g.xy1, g.xy2, g.xy3, window, e.visited as usize),
+        past: visible_index(g.xy1, g.xy2, g.xy3, window, last) + 1,
+    }
 }
 
 // n pixels of a blit visited, row by row.
@@ -149,10 +172,13 @@ fn visit_rows(
     let c = command_of(g.cmd);
     let b = blit(e, extent);
     let after = moved_by(e, extent, count, n, e.pattern);
+    let s = stretch(e, b.window, count, n);
+    let first = s.from;
+    let m = saturating_sub(s.past, s.from);
     if c.to_virtual {
-        draw_blit(b, e.visited as usize, n, virt, display);
+        draw_blit(b, first, m, virt, display);
     } else {
-        draw_blit(b, e.visited as usize, n, display, virt);
+        draw_blit(b, first, m, display, virt);
     }
     after
 }

@@ -169,7 +169,7 @@ mod tests {
         let (mut record, mut list) = (Record::fresh(8, 4, 4_096), vec![0; 5 * 4_096]);
         let mut line = Line::new(Feed::start(0));
         let mut fed = 0;
-        for _ in 0..300 {
+        for _ in 0..400 {
             let Call::Feed { mut feed, piece } = line.feed(&mut random, &record) else {
                 panic!("another call");
             };

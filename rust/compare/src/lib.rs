@@ -18,3 +18,4 @@ pub mod sides;
 pub mod spoil;
 pub mod stipples;
 pub mod tally;
+pub mod visits;

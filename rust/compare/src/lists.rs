@@ -94,13 +94,17 @@ pub fn list(random: &mut Random, size: Size, entries: usize) -> Vec<u8> {
     for _ in 0..entries {
         bytes.extend(legal_entry(random, size));
     }
-    if random.one_in(1_000) {
-        let line = crossing_line(random, size);
-        put_anywhere(random, &mut bytes, &line);
-    }
     if random.one_in(3) {
         let glyph = glyph(random, size);
         put_anywhere(random, &mut bytes, &glyph);
+    }
+    if random.one_in(8) {
+        let blit = hidden_blit(random, size);
+        put_anywhere(random, &mut bytes, &blit);
+    }
+    if random.one_in(400) {
+        let line = crossing_line(random, size);
+        put_anywhere(random, &mut bytes, &line);
     }
     if random.one_in(8) {
         let entry = doubtful_entry(random, size);
@@ -156,6 +160,111 @@ fn glyph(random: &mut Random, size: Size) -> Vec<u8> {
         (XY3, random.below(4) as u32),
         (XY1, to),
     ])
+}
+
+/// A blit that lies partly or wholly off the board, under a clip of any kind. The blits after it are small again.
+fn hidden_blit(random: &mut Random, size: Size) -> Vec<u8> {
+    let styles = if random.one_in(3) { &STIPPLED } else { &PLAIN };
+    let flags = blit_flags(random, styles);
+    let (width, height) = hidden_extent(random, size);
+    let direction = random.below(4) as u32;
+    let corner = |random: &mut Random| {
+        let left = hidden_side(random, width, size.width);
+        let top = hidden_side(random, height, size.height);
+        let x = if direction & 2 == 2 {
+            left + width - 1
+        } else {
+            left
+        };
+        (
+            x,
+            if direction & 1 == 1 {
+                top + height - 1
+            } else {
+                top
+            },
+        )
+    };
+    let to = corner(random);
+    let from = match random.below(3) {
+        0 => corner(random),
+        1 => (to.0 + random.between(-3, 3), to.1 + random.between(-1, 1)),
+        _ => (
+            random.between(-3, size.width),
+            random.between(-3, size.height),
+        ),
+    };
+    let (top_left, bottom_right) = clip(random, size);
+    entries(&[
+        (CLPTL, top_left),
+        (CLPBR, bottom_right),
+        (FORE, colour(random)),
+        (
+            CMD,
+            opcode::BITBLT << 28 | raster_code(random) << 24 | flags,
+        ),
+        (XY0, halves(from.0, from.1)),
+        (XY2, halves(width, height)),
+        (XY3, direction),
+        (XY1, halves(to.0, to.1)),
+        (XY2, extent(random, size)),
+    ])
+}
+
+/// Width and height of a blit that is mostly larger than the board.
+fn hidden_extent(random: &mut Random, size: Size) -> (i64, i64) {
+    const HUGE: [i64; 2] = [2_047, 2_048];
+    let larger = |random: &mut Random, limit: i64| random.between(1, (3 * limit + 8).min(2_048));
+    match random.weighted(&[250, 30, 10, 10, 1]) {
+        0 => (larger(random, size.width), larger(random, size.height)),
+        1 => (random.between(1, 200), random.between(1, 200)),
+        2 => (random.pick(&HUGE), random.between(1, 40)),
+        3 => (random.between(1, 40), random.pick(&HUGE)),
+        _ => (random.pick(&HUGE), random.pick(&HUGE)),
+    }
+}
+
+/// Where a side so long begins: before the board, inside it, so that it ends inside or covers it, or just off it.
+fn hidden_side(random: &mut Random, length: i64, limit: i64) -> i64 {
+    match random.weighted(&[6, 6, 3, 1]) {
+        0 => random.between(0, limit - 1) - length + 1,
+        1 => random.between(0, limit - 1),
+        2 => random.between(limit.min(length) - length, 0),
+        _ => random.pick(&[-length - 1, -length, limit, limit + 1]),
+    }
+}
+
+/// A clip rectangle: one pixel, one row or column, reversed, off the board, inside it, or without an end.
+fn clip(random: &mut Random, size: Size) -> (u32, u32) {
+    let on_board = |random: &mut Random| {
+        let x = random.between(0, size.width - 1);
+        (x, random.between(0, size.height - 1))
+    };
+    let (a, b) = (on_board(random), on_board(random));
+    let low = (a.0.min(b.0), a.1.min(b.1));
+    let high = (a.0.max(b.0), a.1.max(b.1));
+    let (first, last) = match random.weighted(&[2, 2, 2, 1, 1, 4, 1, 3]) {
+        0 => (a, a),
+        1 => ((a.0, -32_768), (a.0, 32_767)),
+        2 => ((-32_768, a.1), (32_767, a.1)),
+        3 => random.pick(&[(a, (a.0 - 1, a.1)), (a, (a.0, a.1 - 1))]),
+        4 => random.pick(&[
+            ((-9, -9), (-1, 99)),
+            ((-9, -9), (99, -1)),
+            ((size.width, 0), (3_000, 99)),
+            ((0, size.height), (99, 3_000)),
+        ]),
+        5 => (low, high),
+        6 => ((-32_768, -32_768), (32_767, 32_767)),
+        _ => {
+            let top_left = clip_corner(random, size, (0, 0));
+            return (
+                top_left,
+                clip_corner(random, size, (size.width, size.height)),
+            );
+        }
+    };
+    (halves(first.0, first.1), halves(last.0, last.1))
 }
 
 fn entries(list: &[(usize, u32)]) -> Vec<u8> {
@@ -342,7 +451,7 @@ fn side(random: &mut Random, limit: i64) -> i64 {
 
 #[cfg(test)]
 mod tests {
-    use super::{ENTRY, Size, doubtful_entry, glyph, legal_entry};
+    use super::{ENTRY, Size, doubtful_entry, glyph, hidden_blit, legal_entry};
     use crate::random::Random;
     use reference::entries::entry_at;
 
@@ -361,11 +470,13 @@ mod tests {
     }
 
     #[test]
-    fn glyphs_are_legal() {
+    fn glyphs_and_hidden_blits_are_legal() {
         let mut random = Random::new(1);
-        for _ in 0..1_000 {
-            let glyph = glyph(&mut random, SIZE);
-            assert!((0..glyph.len() / ENTRY).all(|place| entry_at(&glyph, place).is_some()));
+        for blit in [glyph, hidden_blit] {
+            for _ in 0..1_000 {
+                let blit = blit(&mut random, SIZE);
+                assert!((0..blit.len() / ENTRY).all(|place| entry_at(&blit, place).is_some()));
+            }
         }
     }
 }

@@ -162,7 +162,10 @@ impl Sequence<'_> {
                 difference::from_paper(&self.engine, &self.reference.record, paper)?;
             }
         }
-        self.tally.call(call, &report, &self.reference.record);
+        let Reference {
+            record, memories, ..
+        } = &self.reference;
+        self.tally.call(call, &report, record, &memories.list);
         if report.number == 0 {
             self.done();
         }

@@ -125,9 +125,20 @@ pub fn anywhere(random: &mut Random, fresh: Record) -> Record {
         record.active_start + record.under_way + random.below(record.active_count.into()) as u32;
     if under_way {
         let pixels = record.state().pixel_count();
+        let (width, height) = record.state().blit().size;
+        let of_blit = u64::from(width) * u64::from(height);
         let anywhere = random.below(pixels);
-        let visited = [0, anywhere, anywhere, pixels.saturating_sub(1), pixels];
-        record.visited = random.pick(&visited) as u32;
+        let visited = [
+            0,
+            anywhere,
+            anywhere,
+            pixels.saturating_sub(1),
+            pixels,
+            pixels + random.below(of_blit.saturating_sub(pixels)),
+            of_blit.saturating_sub(1),
+            of_blit,
+        ];
+        record.visited = visited[random.weighted(&[4, 4, 4, 4, 2, 1, 1, 1])] as u32;
     }
     record
 }

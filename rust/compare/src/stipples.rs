@@ -70,8 +70,10 @@ impl Stipple {
             x: self.bit.x.div_euclid(8),
             y: self.bit.y,
         };
-        let pixel = |i| self.state.blit_pixel(register::XY1, i);
-        self.in_one_buffer() && (0..self.state.visited).any(|i| pixel(i) == byte)
+        let corner = self.state.blit().corner;
+        let visits = self.state.blit_visits();
+        let mut visited = visits[..self.state.visited as usize].iter();
+        self.in_one_buffer() && visited.any(|&offset| corner.moved(offset) == byte)
     }
 
     fn reads_a_middle(&self) -> bool {

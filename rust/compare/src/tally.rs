@@ -5,6 +5,7 @@ use crate::compared::Compared;
 use crate::lists::ENTRY;
 use crate::sequence::{self, KINDS, Kind};
 use crate::stipples::{STIPPLES, Stipple, ignores_bits, reads_bits};
+use crate::visits::{self, CUT, ENDS, Hidden, NOTHING, VISITED};
 use reference::entries::{Command, flag, opcode};
 use reference::{Feed, Record, Report};
 
@@ -57,6 +58,13 @@ pub struct Tally {
     flags: [u64; FLAGS.len()],
     directions: [[u64; 4]; BLITS.len()],
     stipples: [u64; STIPPLES.len()],
+    /// Partly hidden blits left under way by a run: by what they do, and by the hidden end and XY3.
+    hidden: [u64; CUT.len()],
+    ends: [[u64; 4]; ENDS.len()],
+    /// Runs whose last step triggered a blit with nothing to show.
+    nothing: [u64; NOTHING.len()],
+    /// Records with a partly hidden blit under way, by its visited pixels.
+    visited: [u64; VISITED.len()],
     /// Accepted feeds by the bytes held before and after.
     held: [[u64; 5]; 5],
     /// Accepted feeds at the end of list memory, which complete nothing.
@@ -73,13 +81,22 @@ impl Tally {
         self.sequences[kind as usize] += 1;
     }
 
-    /// Counts a call, with the record that it left.
-    pub fn call(&mut self, call: &Call, report: &Report, record: &Record) {
+    /// Counts a call, with the record and the list memory that it left.
+    pub fn call(&mut self, call: &Call, report: &Report, record: &Record, list: &[u8]) {
         self.answers[call.kind()][report.number as usize] += 1;
         self.steps += report.steps;
         self.longest = self.longest.max(report.steps);
         if report.steps > 0 && record.under_way == 1 {
             self.cut(record);
+        }
+        if record.under_way == 1 {
+            for kind in visits::visited_kinds(record, &record.faults()) {
+                self.visited[kind] += 1;
+            }
+        } else if report.steps > 0 {
+            if let Some(why) = visits::nothing_to_show(record, list) {
+                self.nothing[why] += 1;
+            }
         }
         if let Call::Feed { feed, piece } = call {
             self.feed(feed, piece, report, record);
@@ -121,6 +138,14 @@ impl Tally {
                 *count += u64::from(does(&blit));
             }
         }
+        if let Some(blit) = Hidden::under_way(record) {
+            for (count, (_, does)) in self.hidden.iter_mut().zip(CUT) {
+                *count += u64::from(does(&blit));
+            }
+            for (counts, (_, does)) in self.ends.iter_mut().zip(ENDS) {
+                counts[record.xy3 as usize] += u64::from(does(&blit));
+            }
+        }
     }
 }
 
@@ -152,6 +177,10 @@ impl Compared for Tally {
             other.directions.as_flattened(),
         );
         add(&mut self.stipples, &other.stipples);
+        add(&mut self.hidden, &other.hidden);
+        add(self.ends.as_flattened_mut(), other.ends.as_flattened());
+        add(&mut self.nothing, &other.nothing);
+        add(&mut self.visited, &other.visited);
         add(self.held.as_flattened_mut(), other.held.as_flattened());
         self.at_the_end += other.at_the_end;
         add(&mut self.bad_feeds, &other.bad_feeds);
@@ -187,6 +216,22 @@ impl Compared for Tally {
         }
         for (&count, (name, _)) in self.stipples.iter().zip(STIPPLES) {
             checks.push((format!("a stippled blit that {name} is cut"), count > 0));
+        }
+        for (&count, (name, _)) in self.hidden.iter().zip(CUT) {
+            checks.push((
+                format!("a partly hidden blit that {name} is cut"),
+                count > 0,
+            ));
+        }
+        for (counts, (end, _)) in self.ends.iter().zip(ENDS) {
+            let name = format!("a blit with a hidden {end} is cut under every XY3");
+            checks.push((name, counts.iter().all(|&count| count > 0)));
+        }
+        for (why, &count) in NOTHING.iter().zip(&self.nothing) {
+            checks.push((format!("a blit with nothing to show, {why}"), count > 0));
+        }
+        for (name, &count) in VISITED.iter().zip(&self.visited) {
+            checks.push((format!("visited pixels of a hidden blit {name}"), count > 0));
         }
         for (held, counts) in self.held.iter().enumerate() {
             let name = format!("feeds with {held} held bytes leave 0 to 4");
@@ -233,6 +278,15 @@ impl Compared for Tally {
         for (count, (name, _)) in self.stipples.iter().zip(STIPPLES) {
             println!("  {name} {count}");
         }
+        println!("partly hidden blits that a budget cut, each");
+        for (count, (name, _)) in self.hidden.iter().zip(CUT) {
+            println!("  {name} {count}");
+        }
+        for (counts, (end, _)) in self.ends.iter().zip(ENDS) {
+            println!("  {end} hidden by XY3 {counts:?}");
+        }
+        println!("blits with nothing to show {:?}", self.nothing);
+        println!("partly hidden blits by visited pixels {:?}", self.visited);
         println!("feeds by held bytes before and after {:?}", self.held);
         println!("  at the end of list memory {}", self.at_the_end);
         for (name, count) in BAD_FEEDS.iter().zip(self.bad_feeds) {

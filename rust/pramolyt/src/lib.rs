@@ -207,8 +207,8 @@ impl Board {
         Answer::from_report(number, 0, 0)
     }
 
-    /// Draws the posted lists for at most `budget` steps; a step is an entry fetched or a pixel visited. The answer is
-    /// [`Answer::WrongSize`] where `list` has not 5 bytes an entry of the board, or a buffer not a byte for each pixel.
+    /// Draws the posted lists for at most `budget` steps; a step is an entry fetched or a pixel visited. A blit visits only
+    /// pixels inside the buffer and its clip, a line hidden ones too. The answer is [`Answer::WrongSize`] where `list` has not 5 bytes an entry of the board, or a buffer not a byte for each pixel.
     ///
     /// [`Answer::IllegalFetch`] means that list memory or the record is not as the last call left it. The list stays
     /// posted, and a further run stops there again. To go on, write a legal entry over that one, [`Board::next_entry`],

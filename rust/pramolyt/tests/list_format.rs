@@ -296,7 +296,13 @@ fn a_size_is_width_then_height() {
         ["........", ".444....", ".444....", "........"]
     );
     panel.blit(Flags::SOLID, size(MAX_SIDE, 3), point(0, 0));
-    assert_eq!(panel.draw(), 3 * MAX_SIDE);
+    assert_eq!(panel.draw(), 3 * WIDTH);
+    panel.blit(
+        Flags::SOLID,
+        size(MAX_SIDE, MAX_SIDE),
+        point(WIDTH as i16, 0),
+    );
+    assert_eq!(panel.draw(), 0);
     panel.blit(Flags::SOLID, size(0, MAX_SIDE), point(0, 0));
     assert_eq!(panel.draw(), 0);
 }
@@ -404,7 +410,7 @@ fn the_flag_of_the_clip() {
     let mut flags = Flags::SOLID;
     flags |= Flags::CLIP;
     panel.blit(flags, size(WIDTH, HEIGHT), point(0, 0));
-    assert_eq!(panel.draw(), AREA);
+    assert_eq!(panel.draw(), 6);
     assert_eq!(
         panel.rows(),
         ["........", ".555....", ".555....", "........"]

@@ -1,8 +1,10 @@
 //! "Pixels": what the visit of one pixel does to the buffers and to the pattern
 //! state. "Coordinates are plain whole numbers and never wrap at 16 bits."
 
+use crate::blits::Blit;
 use crate::entries::{flag, opcode, pattern_control, register};
 use crate::state::State;
+use std::rc::Rc;
 
 /// A pixel's place, anywhere in the plane.
 #[derive(Clone, Copy, PartialEq, Eq, Debug)]
@@ -11,12 +13,46 @@ pub struct Point {
     pub y: i64,
 }
 
+impl Point {
+    /// The pixel so far from this one.
+    pub fn moved(self, by: Point) -> Point {
+        Point {
+            x: self.x + by.x,
+            y: self.y + by.y,
+        }
+    }
+}
+
 /// "x in the high half, y in the low half (000), each two's complement".
 pub fn point(word: u32) -> Point {
     Point {
         x: i64::from((word >> 16) as u16 as i16),
         y: i64::from(word as u16 as i16),
     }
+}
+
+/// What lets pixels through: the destination buffer, and the clip from CLPTL to CLPBR
+/// with CLIP.
+#[derive(Clone, Copy, PartialEq, Eq, Debug)]
+pub struct Window {
+    pub width: u32,
+    pub height: u32,
+    pub clip: Option<(Point, Point)>,
+}
+
+impl Window {
+    /// Not "outside the destination buffer", nor "with CLIP set outside CLPTL to CLPBR
+    /// (both corners inside)".
+    pub fn holds(&self, p: Point) -> bool {
+        let (width, height) = (i64::from(self.width), i64::from(self.height));
+        let in_buffer = 0 <= p.x && p.x < width && 0 <= p.y && p.y < height;
+        in_buffer && self.clip.is_none_or(|clip| in_clip(clip, p))
+    }
+}
+
+/// "CLPTL to CLPBR (both corners inside)". "A reversed clip draws nothing."
+fn in_clip((top_left, bottom_right): (Point, Point), p: Point) -> bool {
+    top_left.x <= p.x && p.x <= bottom_right.x && top_left.y <= p.y && p.y <= bottom_right.y
 }
 
 /// The two buffers lent for drawing, "each exactly width x height bytes": 0 the
@@ -92,7 +128,7 @@ fn minor_coordinate(n: i64, a: i64, difference: i64, i: i64) -> i64 {
 }
 
 impl State {
-    /// Draws the pixel numbered i of the command in CMD.
+    /// Draws the pixel of the visit numbered i of the command in CMD.
     pub(crate) fn draw(&mut self, i: u32, buffers: &mut Buffers) {
         match self.command().opcode() {
             opcode::BITBLT => self.draw_blit_pixel(i, buffers),
@@ -101,33 +137,29 @@ impl State {
         }
     }
 
+    fn draw_blit_pixel(&self, i: u32, buffers: &mut Buffers) {
+        let index = self.let_through(self.blit_pixel(register::XY1, i), buffers);
+        if let (Some(index), Some(source)) = (index, self.blit_source(i, buffers)) {
+            self.put(index, source, buffers);
+        }
+    }
+
     /// "Source is FORE with SOLID, else the source buffer's pixel; a source pixel
     /// outside its buffer, or equal to KEY with KEY set, draws nothing." Of STPL:
     /// "With SOLID the source is FORE everywhere and no bit is read" (document 02, R-2).
-    fn draw_blit_pixel(&self, i: u32, buffers: &mut Buffers) {
+    pub fn blit_source(&self, i: u32, buffers: &Buffers) -> Option<u8> {
         let command = self.command();
-        let at = |corner| self.blit_pixel(corner, i);
-        let Some(index) = self.let_through(at(register::XY1), buffers) else {
-            return;
-        };
-        let source = if command.has(flag::SOLID) {
-            self.byte(register::FORE)
-        } else if command.has(flag::STPL) {
-            let Some(source) = self.stipple_source(at(register::XY0), buffers) else {
-                return;
-            };
-            source
-        } else {
-            let Some(from) = buffers.index(at(register::XY0)) else {
-                return;
-            };
-            let pixel = buffers.pixels[usize::from(command.has(flag::SOURCE))][from];
-            if command.has(flag::KEY) && pixel == self.byte(register::KEY) {
-                return;
-            }
-            pixel
-        };
-        self.put(index, source, buffers);
+        if command.has(flag::SOLID) {
+            return Some(self.byte(register::FORE));
+        }
+        let from = self.blit_pixel(register::XY0, i);
+        if command.has(flag::STPL) {
+            return self.stipple_source(from, buffers);
+        }
+        let from = buffers.index(from)?;
+        let pixel = buffers.pixels[usize::from(command.has(flag::SOURCE))][from];
+        let is_key = command.has(flag::KEY) && pixel == self.byte(register::KEY);
+        (!is_key).then_some(pixel)
     }
 
     /// "XY0 is then a bit position, bit x of row y being bit 7 - (x mod 8) of byte
@@ -143,28 +175,36 @@ impl State {
         self.bit_source(u32::from(byte) >> (7 - bit.x.rem_euclid(8)) & 1)
     }
 
-    /// Where pixel i lies as seen from the corner XY0 or XY1. With STPL too: "Direction,
-    /// clip, mask and steps are as for other blits" (document 02, R-2).
+    /// Where the pixel of visit i lies as seen from the corner XY0 or XY1. With STPL too:
+    /// "Direction, clip, mask and steps are as for other blits" (document 02, R-2).
     pub fn blit_pixel(&self, corner: usize, i: u32) -> Point {
-        let corner = point(self.registers[corner]);
-        let offset = self.blit_offset(i);
-        Point {
-            x: corner.x + offset.x,
-            y: corner.y + offset.y,
+        point(self.registers[corner]).moved(self.blit_visits()[i as usize])
+    }
+
+    /// How far the visits of the blit in CMD lie from the corner where it begins.
+    pub fn blit_visits(&self) -> Rc<[Point]> {
+        self.blit().kept_visits()
+    }
+
+    /// The blit in CMD.
+    pub fn blit(&self) -> Blit {
+        let size = self.registers[register::XY2];
+        Blit {
+            window: self.window(),
+            corner: point(self.registers[register::XY1]),
+            size: (size >> 16, size & 0xFFFF),
+            direction: self.registers[register::XY3],
         }
     }
 
-    /// "BITBLT visits width x height pixels in rows. XY3 1 and 3 go bottom to top, 2
-    /// and 3 right to left; XY0 and XY1 are the corners of 003's table": how far
-    /// pixel i lies from the corner where the command begins.
-    fn blit_offset(&self, i: u32) -> Point {
-        let width = self.registers[register::XY2] >> 16;
-        let column = i64::from(i % width);
-        let row = i64::from(i / width);
-        let direction = self.registers[register::XY3];
-        Point {
-            x: if direction & 2 == 2 { -column } else { column },
-            y: if direction & 1 == 1 { -row } else { row },
+    /// What lets the pixels of the command in CMD through.
+    fn window(&self) -> Window {
+        let corner = |number| point(self.registers[number]);
+        let clip = || (corner(register::CLPTL), corner(register::CLPBR));
+        Window {
+            width: self.width,
+            height: self.height,
+            clip: self.command().has(flag::CLIP).then(clip),
         }
     }
 
@@ -216,19 +256,14 @@ impl State {
     }
 
     /// "A pixel outside the destination buffer, or with CLIP set outside CLPTL to
-    /// CLPBR (both corners inside), is visited and not drawn. A reversed clip draws
-    /// nothing."
+    /// CLPBR (both corners inside), is visited and not drawn": a line's. A blit does not
+    /// visit it (document 02, R-6).
     fn let_through(&self, p: Point, buffers: &Buffers) -> Option<usize> {
-        let top_left = point(self.registers[register::CLPTL]);
-        let bottom_right = point(self.registers[register::CLPBR]);
-        let in_clip = top_left.x <= p.x
-            && p.x <= bottom_right.x
-            && top_left.y <= p.y
-            && p.y <= bottom_right.y;
-        if self.command().has(flag::CLIP) && !in_clip {
-            return None;
+        if self.window().holds(p) {
+            buffers.index(p)
+        } else {
+            None
         }
-        buffers.index(p)
     }
 
     /// Combines the source with the pixel as it stands in the destination buffer.

@@ -3,9 +3,11 @@
 //! compared with it.
 //!
 //! It is written to be read against the document, not to be fast: whole numbers
-//! are wide, each pixel is worked out from its own number in the command, and the
-//! comments quote the sentences that the code follows.
+//! are wide, each pixel of a line is worked out from its own number, those of a blit
+//! are taken from all its pixels, and the comments quote the sentences that the code
+//! follows.
 
+pub mod blits;
 pub mod calls;
 pub mod drawing;
 pub mod entries;

@@ -31,8 +31,6 @@ enum Waiting {
 /// "It is fed each call's arguments other than the board record and the lent
 /// memories, whether the answer was 0, and the steps a run reported."
 pub struct PaperBoard {
-    width: u32,
-    height: u32,
     list: Vec<u8>,
     buffers: [Vec<u8>; 2],
     queue: VecDeque<Waiting>,
@@ -56,13 +54,13 @@ impl PaperBoard {
             let pixels = u128::from(width) * u128::from(height);
             assert_eq!(buffer.len() as u128, pixels, "a buffer of another size");
         }
+        let width = u32::try_from(width).expect("a width of the document's limits");
+        let height = u32::try_from(height).expect("a height of the document's limits");
         PaperBoard {
-            width: u32::try_from(width).expect("a width of the document's limits"),
-            height: u32::try_from(height).expect("a height of the document's limits"),
             list,
             buffers: [display, virt],
             queue: VecDeque::new(),
-            state: State::fresh(),
+            state: State::fresh(width, height),
         }
     }
 
@@ -143,8 +141,8 @@ impl PaperBoard {
         };
         let [display, virt] = &mut self.buffers;
         let mut buffers = Buffers {
-            width: self.width,
-            height: self.height,
+            width: self.state.width,
+            height: self.state.height,
             pixels: [display, virt],
         };
         match self.state.step(copy, *next, &mut buffers) {

@@ -85,7 +85,7 @@ impl Record {
         record.width = width;
         record.height = height;
         record.entries = entries;
-        record.set_state(&State::fresh());
+        record.set_state(&State::fresh(width, height));
         record
     }
 
@@ -153,6 +153,8 @@ impl Record {
     /// The part of the record that a step works on.
     pub fn state(&self) -> State {
         State {
+            width: self.width,
+            height: self.height,
             registers: self.registers(),
             pattern_place: self.pattern_place,
             pattern_repeat: self.pattern_repeat,
@@ -187,8 +189,8 @@ impl Record {
         let end = u64::from(self.entries);
         let empty = spans.iter().any(|span| span.1 == 0);
         let passes = spans.iter().any(|span| span.0 + span.1 > end);
-        let visited_all = u64::from(self.visited) >= self.state().pixel_count();
         let (pending, under_way) = (self.pending_taken == 1, self.under_way == 1);
+        let visited_all = under_way && self.visited_all();
         #[rustfmt::skip]
         let clauses = [
             ("a flag is neither 0 nor 1", !self.flags_legal()),
@@ -202,7 +204,7 @@ impl Record {
             ("a taken slot's span is empty", empty),
             ("a taken slot's span passes the memory", passes),
             ("the next entry is outside the active list", !self.next_in_active()),
-            ("the visited pixels are not below the command's count", under_way && visited_all),
+            ("the visited pixels are not below the command's count", visited_all),
         ];
         clauses.iter().filter(|c| c.1).map(|c| c.0).collect()
     }
@@ -215,6 +217,13 @@ impl Record {
     /// Flags are fields of their own, apart from the spans: 0 or 1.
     fn flags_legal(&self) -> bool {
         self.active_taken <= 1 && self.pending_taken <= 1 && self.under_way <= 1
+    }
+
+    /// "the count of visited pixels is not below the current command's count". The count
+    /// goes by sizes and registers; where they are illegal there is none.
+    fn visited_all(&self) -> bool {
+        let has_count = self.sizes_legal() && self.registers_legal();
+        has_count && u64::from(self.visited) >= self.state().pixel_count()
     }
 
     /// "Width and height are 1 to 2,048; entries 1 to 4,096."

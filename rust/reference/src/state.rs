@@ -4,9 +4,12 @@
 use crate::drawing::{line_length, point, Buffers, Point};
 use crate::entries::{entry_at, flag, opcode, pattern_control, register, Command};
 
-/// The registers, the pattern state, the last point and the command under way.
+/// The buffers' size, the registers, the pattern state, the last point and the command
+/// under way.
 #[derive(Clone, Copy, PartialEq, Eq, Debug)]
 pub struct State {
+    pub width: u32,
+    pub height: u32,
     pub registers: [u32; register::COUNT],
     pub pattern_place: u32,
     pub pattern_repeat: u32,
@@ -27,10 +30,12 @@ pub enum Step {
 
 impl State {
     /// "Fresh: all registers zero but MASK 255; pattern at 0, 0; last point (0, 0)".
-    pub fn fresh() -> State {
+    pub fn fresh(width: u32, height: u32) -> State {
         let mut registers = [0; register::COUNT];
         registers[register::MASK] = 255;
         State {
+            width,
+            height,
             registers,
             pattern_place: 0,
             pattern_repeat: 0,
@@ -112,15 +117,13 @@ impl State {
         self.visited = 0;
     }
 
-    /// "BITBLT visits width x height pixels in rows." "With n = max(|dx|, |dy|),
-    /// n + 1 pixels"; "NLST leaves out the pixel at B."
+    /// "A blit is to visit only destination pixels inside the buffer and, with CLIP,
+    /// inside the clip"; "Lines keep theirs." (document 02, R-6) "With n = max(|dx|,
+    /// |dy|), n + 1 pixels"; "NLST leaves out the pixel at B."
     pub fn pixel_count(&self) -> u64 {
         let command = self.command();
         match command.opcode() {
-            opcode::BITBLT => {
-                let size = self.registers[register::XY2];
-                u64::from(size >> 16) * u64::from(size & 0xFFFF)
-            }
+            opcode::BITBLT => self.blit_visits().len() as u64,
             opcode::LINE | opcode::PLINE => {
                 let (a, b) = self.line_ends();
                 line_length(a, b).unsigned_abs() + u64::from(!command.has(flag::NLST))

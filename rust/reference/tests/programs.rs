@@ -41,13 +41,13 @@ fn draw_prints_the_example() {
 #[test]
 fn draw_answers() {
     let nothing = |entries: usize| vec![0; 5 * entries];
-    let fill = |width, height, spare: usize| {
+    let fill = |width, height| {
         let list = [
             [0x00, 0x13, 0x80, 0x00, 0x00],
             [0x50, width, 0x00, height, 0x00],
             [0x60, 0x00, 0x00, 0x00, 0x00],
         ];
-        [list.concat(), vec![0; 5 * spare]].concat()
+        list.concat()
     };
     for (input, first_line) in [
         (nothing(0), "answer 3 steps 0 idle"),
@@ -56,8 +56,9 @@ fn draw_answers() {
         (nothing(4_097), "answer 2 steps 0 idle"),
         (vec![0; 20_481], "answer 2 steps 0 idle"),
         (vec![0, 0, 0, 0, 1], "answer 6 steps 0 idle"),
-        (fill(8, 1, 0), "answer 0 steps 524291 idle"),
-        (fill(8, 8, 0), "answer 0 steps 1000000 paused"),
+        (fill(0, 1), "answer 0 steps 3 idle"),
+        (fill(8, 1), "answer 0 steps 35 idle"),
+        (fill(8, 8), "answer 0 steps 35 idle"),
     ] {
         let expected = format!("{first_line}\n{}", ZERO_ROW.repeat(4));
         assert_eq!(run(DRAW, &input), (0, expected, "".into()));
@@ -67,14 +68,18 @@ fn draw_answers() {
 /// Exactly 1,000,000 steps with nothing left is idle, one more is paused.
 #[test]
 fn draw_at_the_budget() {
-    // 8 fills of 2,048 by 61 and one trigger each, then entries without pixels.
-    let fills = 8 * 2_048 * 61;
-    let entries = 1_000_000 - fills;
-    assert!((10..4_096).contains(&entries));
+    // 16 lines of 62,254 pixels below the board, with a trigger each, then entries
+    // without pixels.
+    let (first, last, below) = (-32_768_i16, 29_485_i16, 9_i16);
+    let entries = 1_000_000 - 16 * 62_254;
+    assert!((18..4_096).contains(&entries));
     for (spare, word) in [(0, "idle"), (1, "paused")] {
-        let mut input = [[0x00, 0x13, 0x80, 0x00, 0x00], [0x50, 8, 0, 0, 61]].concat();
-        for _ in 0..8 {
-            input.extend([0x60, 0, 0, 0, 0]);
+        let point = |x: i16| [x.to_be_bytes(), below.to_be_bytes()].concat();
+        let mut input = vec![0x00, 0x23, 0x80, 0x00, 0x00, 0x48];
+        input.extend(point(first));
+        for _ in 0..16 {
+            input.push(0x60);
+            input.extend(point(last));
         }
         input.resize(5 * (entries + spare), 0);
         let (_, output, _) = run(DRAW, &input);

@@ -11,3 +11,4 @@ mod packing;
 mod paper;
 mod pixels;
 mod stipples;
+mod visits;

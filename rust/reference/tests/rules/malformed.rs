@@ -31,6 +31,18 @@ fn drawing() -> Record {
     }
 }
 
+/// The same lists with a fill of 9 by 9 under way, of which 4 by 2 pixels show, 7 of them
+/// visited.
+fn filling() -> Record {
+    Record {
+        visited: 7,
+        cmd: FILL,
+        xy1: xy(4, 2),
+        xy2: xy(9, 9),
+        ..drawing()
+    }
+}
+
 /// Applies the change; the clauses that hold, and that each call then answers 1 and
 /// leaves all as given, also where a memory is of another size.
 fn faults(mut record: Record, change: Change) -> Vec<&'static str> {
@@ -69,7 +81,7 @@ const NEXT: &str = "the next entry is outside the active list";
 const VISITED: &str = "the visited pixels are not below the command's count";
 
 /// A clause, a well-formed record and the change by which that clause alone holds.
-const CLAUSES: [(&str, Base, Change); 43] = [
+const CLAUSES: [(&str, Base, Change); 48] = [
     (FLAG, waiting, |r| r.active_taken = 2),
     (FLAG, waiting, |r| r.pending_taken = u32::MAX),
     (FLAG, drawing, |r| r.under_way = 3),
@@ -117,6 +129,13 @@ const CLAUSES: [(&str, Base, Change); 43] = [
     (VISITED, drawing, |r| {
         (r.visited, r.cmd, r.xy2) = (0, FILL, xy(9, 0))
     }),
+    (VISITED, filling, |r| r.visited = 8),
+    (VISITED, filling, |r| r.xy1 = xy(7, 1)),
+    (VISITED, filling, |r| r.height = 3),
+    (VISITED, filling, |r| (r.visited, r.xy3) = (15, 3)),
+    (VISITED, filling, |r| {
+        (r.visited, r.cmd, r.clpbr) = (0, FILL | CLIP, xy(3, 9))
+    }),
     (VISITED, drawing, |r| {
         (r.visited, r.cmd, r.xy1) = (0, SOLID_LINE | NLST, 0)
     }),
@@ -142,7 +161,7 @@ fn empty_active_list() {
 /// that is no XY1.
 #[test]
 fn well_formed_neighbours() {
-    let rows: [(Base, Change); 14] = [
+    let rows: [(Base, Change); 20] = [
         (idle, |_| {}),
         (idle, |r| (r.width, r.height, r.entries) = (2_048, 1, 4_096)),
         (idle, |r| {
@@ -157,7 +176,15 @@ fn well_formed_neighbours() {
         (drawing, |_| {}),
         (drawing, |r| r.next = 5),
         (drawing, |r| r.visited = 4),
-        (drawing, |r| (r.visited, r.cmd, r.xy2) = (9, FILL, xy(5, 2))),
+        (drawing, |r| (r.visited, r.cmd, r.xy2) = (7, FILL, xy(5, 2))),
+        (filling, |_| {}),
+        (filling, |r| (r.visited, r.xy1) = (3, xy(7, 0))),
+        (filling, |r| (r.visited, r.xy3) = (14, 3)),
+        (filling, |r| (r.visited, r.xy3) = (9, 2)),
+        (filling, |r| {
+            (r.visited, r.cmd, r.clpbr) = (0, FILL | CLIP, xy(4, 2))
+        }),
+        (filling, |r| (r.visited, r.xy1) = (31, xy(-1, -1))),
         (drawing, |r| {
             (r.visited, r.cmd, r.last) = (32_772, SOLID_PLINE, xy(-32_768, 0))
         }),

@@ -146,7 +146,8 @@ fn halves() {
     }
 }
 
-/// The longest lines: all visits are steps and no sum wraps.
+/// The longest lines, whose hidden pixels are steps too, and the blits farthest off the
+/// board, which visit none: no sum wraps.
 #[test]
 fn far_coordinates() {
     let mut board = board(4, 4, 8);
@@ -167,7 +168,7 @@ fn far_coordinates() {
             (XY3, direction),
             (XY1, corner),
         ];
-        assert_eq!(draw(&mut board, &fill), 4 + 4_096);
+        assert_eq!(draw(&mut board, &fill), 4);
         assert_eq!(lit(&board), [0, 5, 10, 15]);
     }
 }
@@ -246,7 +247,8 @@ fn blit_sources() {
     }
 }
 
-/// Fills of the whole 4 by 4 board: what the clip lets through, both corners inside.
+/// Fills of the whole 4 by 4 board: what the clip lets through, both corners inside, is
+/// visited and drawn.
 #[test]
 fn clip_rectangles() {
     for (flags, top_left, bottom_right, drawn) in [
@@ -269,13 +271,13 @@ fn clip_rectangles() {
             (XY2, xy(4, 4)),
             (XY1, 0),
         ];
-        assert_eq!(draw(&mut board, &list), 6 + 16);
+        assert_eq!(draw(&mut board, &list), 6 + drawn.len() as u64);
         assert_eq!(lit(&board), drawn);
     }
 }
 
 /// Copies of 3 by 2 on a 4 by 4 board: a pixel past an edge of either buffer is not
-/// one of the next row.
+/// one of the next row. Those past the source buffer's are visited.
 #[test]
 fn buffer_edges() {
     for (from, to, drawn) in [
@@ -296,7 +298,8 @@ fn buffer_edges() {
             (XY0, xy(from.0, from.1)),
             (XY1, xy(to.0, to.1)),
         ];
-        assert_eq!(draw(&mut board, &list), 4 + 6);
+        let visited = if to == (0, 0) { 6 } else { drawn.len() };
+        assert_eq!(draw(&mut board, &list), 4 + visited as u64);
         assert_eq!(lit(&board), drawn);
     }
 }
@@ -304,7 +307,7 @@ fn buffer_edges() {
 /// Each list ends in the last point; PLINE begins there.
 #[test]
 fn last_points() {
-    let rows: [(&str, &List, (i32, i32)); 8] = [
+    let rows: [(&str, &List, (i32, i32)); 10] = [
         ("fresh", &[(FORE, 1)], (0, 0)),
         ("line", &[(CMD, SOLID_LINE), (XY1, xy(2, -3))], (2, -3)),
         ("NLST", &[(CMD, SOLID_LINE | NLST), (XY1, xy(5, 1))], (5, 1)),
@@ -320,6 +323,16 @@ fn last_points() {
             (6, 3),
         ),
         ("empty blit", &[(CMD, FILL), (XY1, xy(-6, 3))], (-6, 3)),
+        (
+            "blit off the board",
+            &[(CMD, FILL), (XY2, xy(9, 9)), (XY3, 1), (XY1, xy(3, -1))],
+            (3, -1),
+        ),
+        (
+            "blit outside the clip",
+            &[(CMD, FILL | CLIP), (XY2, xy(2, 2)), (XY1, xy(1, 0))],
+            (1, 0),
+        ),
         (
             "NOOP after a line",
             &[

@@ -23,8 +23,7 @@ const ROW: Stipple = Stipple {
     to: (0, 0),
 };
 
-/// FORE 1, BACK 2, the clip from (2, 0) to (5, 1), then the blit; all its visits are
-/// steps.
+/// FORE 1, BACK 2, the clip from (2, 0) to (5, 1), then the blit; each visit is a step.
 fn stipple(board: &mut Sequence, blit: &Stipple) {
     let list = [
         (FORE, 1),
@@ -37,8 +36,25 @@ fn stipple(board: &mut Sequence, blit: &Stipple) {
         (XY3, blit.direction),
         (XY1, xy(blit.to.0, blit.to.1)),
     ];
-    let pixels = (blit.size.0 * blit.size.1) as u64;
-    assert_eq!(draw(board, &list), 9 + pixels);
+    let visits = draw(board, &list) - 9;
+    assert_eq!(visits, shown(board, blit));
+}
+
+/// The pixels of a blit inside the buffer and, with CLIP, inside the clip.
+fn shown(board: &Sequence, blit: &Stipple) -> u64 {
+    let (width, height) = (board.record.width as i32, board.record.height as i32);
+    let sign = |bit: u32| if blit.direction & bit == bit { -1 } else { 1 };
+    let is_shown = |row: i32, column: i32| {
+        let (x, y) = (blit.to.0 + sign(2) * column, blit.to.1 + sign(1) * row);
+        let in_clip = (2..=5).contains(&x) && (0..=1).contains(&y);
+        (0..width).contains(&x) && (0..height).contains(&y) && (blit.command & CLIP == 0 || in_clip)
+    };
+    let in_row = |row: i32| {
+        (0..blit.size.0)
+            .filter(|&column| is_shown(row, column))
+            .count()
+    };
+    (0..blit.size.1).map(in_row).sum::<usize>() as u64
 }
 
 /// The row that a blit leaves of 9 9 9 9 9 9 9 9, as digits; the bits of the virtual

@@ -1,7 +1,7 @@
--- Each return is the case of `advancedOf` that the test chose; visited + 1 fits 32 bits where it is below the count,
+-- Each return is the case of `advancedBy` that the test chose; visited + 1 fits 32 bits where it is below the count,
 -- which does (`pixels-lt`).
 use Rattle.commands.proofs.Bounds.{pixels-lt}
-use Rattle.commands.specs.Steps.{advancedOf}
+use Rattle.commands.specs.Steps.{advancedBy}
 use borrow.Author.Tests.{lt-ltb, le-ltb}
 use native.Mathlib.Omega.{arith}
 use borrow.Author.Needs.{needs}
@@ -26,13 +26,13 @@ add-t9 c =
     omega (arith, c .before .before .before .count .ensures, pixels-lt (first .args .extent) (first .args .self) (omega (arith, first .good .0)))
 
 returns : tie.Need-returns
-unfolding advancedOf
+unfolding advancedBy
 returns c =
     let o = c .before .before .before in
     rw (lt-ltb _ _ (rw (o .count .ensures) at (c .before .if1 .taken)), o .before .pattern-after .ensures)
 
 returns-2 : tie.Need-returns-2
-unfolding advancedOf
+unfolding advancedBy
 returns-2 c =
     let o = c .before .before in
     rw (le-ltb _ _ (rw (o .count .ensures) at (c .if1 .left)), o .before .pattern-after .ensures)

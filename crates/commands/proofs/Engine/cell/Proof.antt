@@ -19,15 +19,25 @@ command-of-requires c κs = search needs
 is-blit-requires : tie.Need-is-blit-requires
 is-blit-requires c κs = search needs
 
+window-requires : tie.Need-window-requires
+window-requires c κs = search needs
+
+visible-index-requires : tie.Need-visible-index-requires
+visible-index-requires c κs = search needs
+
 blit-cell-requires : tie.Need-blit-cell-requires
 blit-cell-requires c κs = search needs
 
 returns : tie.Need-returns
-returns c = c .blit-cell .ensures ∙ cell-blit _ _ _ (blit (c .before .before) true (c .before .if1 .taken))
+returns c =
+    let index = c .before in
+    let o = index .before .before in
+    c .blit-cell .ensures ∙ rw (index .visible-index .ensures, index .before .window .ensures)
+    (cell-blit _ _ _ (blit (o .before) true (o .if1 .taken)))
 
 returns-2 : tie.Need-returns-2
 returns-2 c = cell-none _ _ _ (blit (c .before) false (c .if1 .left))
 
 pub cell-spec : {M : Type 1} → statement M
 cell-spec =
-    tie.close (tie.spec command-of-requires is-blit-requires blit-cell-requires returns returns-2)
+    tie.close (tie.spec command-of-requires is-blit-requires window-requires visible-index-requires blit-cell-requires returns returns-2)

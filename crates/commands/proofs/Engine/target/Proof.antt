@@ -37,7 +37,7 @@ returns-2 c =
     let found = seen .before .before in
     let o = found .before .before in
     let s = o .before .before .before .args in
-    clipped (s .extent) (s .self) _
+    clipped (s .extent) (s .self .registers) _
     (clip-is (s .self) _ (o .before .command-of .ensures) _ _ _ (seen .rect-of .ensures) (c .before .before .contains .ensures) true (c .if1 .taken))
     ∙ target-by (s .extent) (s .self) (s .k) (s .cell) _ _ (o .position .ensures) (found .visit .given .1)
 
@@ -50,7 +50,7 @@ returns-3 c =
     let found = seen .before .before in
     let o = found .before .before in
     let s = o .before .before .before .args in
-    unclipped (s .extent) (s .self) _ _ (c .place-of .ensures)
+    unclipped (s .extent) (s .self .registers) _ _ (c .place-of .ensures)
     (clip-is (s .self) _ (o .before .command-of .ensures) _ _ _ (seen .rect-of .ensures) (c .before .before .before .contains .ensures) false (c .before .if1 .left))
     ∙ target-by (s .extent) (s .self) (s .k) (s .cell) _ _ (o .position .ensures) (found .visit .given .1)
 
