@@ -11,7 +11,7 @@ use lib.ListN.{length}
 use Rattle.lemmas.proofs.Booleans.{by-cases}
 use Rattle.entries.specs.declared.decoding.Entry.{Entry}
 use Rattle.commands.specs.Visits.{shows, every}
-use Rattle.commands.specs.Steps.{Scene, scene, visitOf, takenOf}
+use Rattle.commands.specs.Steps.{Scene, visitOf, takenOf}
 use Rattle.commands.specs.Wholes.{doneBy, doneOf}
 use Rattle.commands.proofs.Counts.{visit-done, take-done, none-done}
 use Rattle.commands.proofs.Unchanged.{picture-unchanged}
@@ -131,17 +131,28 @@ posted-to-come l start count b w idle =
     ap₂ (λ n es. entriesFrom l start n ++ es) all (slot-rest (b .pending) (b .sizes .entries) l (g .pending) (none-waits b g idle))
     ∙ append-nil (entriesFrom l start count)
 
-pub posted-unchanged : PostedUnchanged
-posted-unchanged b l start count budget d v idle p r emptied =
+pub posted-rest : (l : List ℕ) (start count : ℕ) (b : Board) → b .active .taken ≡ false → postCall l start count b .report .number ≡ 0
+    → b .engine .«under_way» ≡ false
+posted-rest l start count b idle p = at-rest b (good-of b (posted-is l start count b idle p .0)) idle
+
+-- and a run that empties the board
+pub posted-done : (b : Board) (l : List ℕ) (start count budget : ℕ) (d v : List ℕ) → b .active .taken ≡ false →
+    let p = postCall l start count b in
+    let r = runCall budget l (machine (p .board) d v) in
+    p .report .number ≡ 0 → r .report .number ≡ 0 → r .after .board .active .taken ≡ false
+    → sceneOf (r .after) ≡ doneOf (b .sizes .extent) (sceneOf (machine b d v)) (entriesFrom l start count)
+posted-done b l start count budget d v idle p r emptied =
     let posted = posted-is l start count b idle p in
     let m = machine (postCall l start count b .board) d v in
     let call = called-is budget l m r in
     let answered = ap (λ (o : Outcome). o .report .number) (sym (call .1)) ∙ r in
     let over = ap (λ (o : Outcome). o .after .board .active .taken) (sym (call .1)) ∙ emptied in
-    let extent = b .sizes .extent in
-    let s = scene (b .engine) d v in
     ap (λ (o : Outcome). sceneOf (o .after)) (call .1)
     ∙ runs-to-the-end budget l m (call .0) answered (enough budget l m (call .0) answered over)
     ∙ ap (λ (x : Board). restDone l (machine x d v)) (posted .1)
-    ∙ ap (doneOf extent s) (posted-to-come l start count b (posted .0) idle)
-    ∙ picture-unchanged extent s (entriesFrom l start count) (at-rest b (good-of b (posted .0)) idle)
+    ∙ ap (doneOf (b .sizes .extent) (sceneOf (machine b d v))) (posted-to-come l start count b (posted .0) idle)
+
+pub posted-unchanged : PostedUnchanged
+posted-unchanged b l start count budget d v idle p r emptied =
+    posted-done b l start count budget d v idle p r emptied
+    ∙ picture-unchanged (b .sizes .extent) (sceneOf (machine b d v)) (entriesFrom l start count) (posted-rest l start count b idle p)

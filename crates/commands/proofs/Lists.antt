@@ -1,8 +1,9 @@
--- Entries step by step do what they do one after the other, each with all its pixels; so R-6 leaves the same.
+-- Entries step by step do what they do one after the other, each with all its pixels, in parts or at once; so R-6 leaves the
+-- same.
 -- Assumes nothing.
 use mathlib.Core.Path.{_≡_, refl, ap, sym, subst, _∙_}
 use mathlib.Core.Bool.{Bool, true, false, cond, _&&_, false≢true}
-use mathlib.Core.List.{List, [], _∷_}
+use mathlib.Core.List.{List, [], _∷_, _++_}
 use Prim.Native.Nat.{ℕ, zero, suc, _+_, _-_, _<_}
 use native.Mathlib.Omega.{arith}
 use borrow.Author.Tests.{ltb-true}
@@ -18,7 +19,7 @@ use Rattle.commands.specs.Lists.{Listed, listed, fetchedBy, stepBy, gone
 use Rattle.commands.specs.declared.Engine.{Engine}
 use Rattle.commands.proofs.Bounds.{count-same}
 use Rattle.commands.proofs.Triggers.{triggered-count}
-use Rattle.commands.proofs.Counts.{visit-steps, take-steps, none-left, visit-done, take-done, none-done}
+use Rattle.commands.proofs.Counts.{rest-finished, visit-steps, take-steps, none-left, visit-done, take-done, none-done}
 use Rattle.commands.proofs.Unchanged.{picture-unchanged}
 
 module _ (rule : Rule) (extent : Extent) where
@@ -108,9 +109,28 @@ module _ (rule : Rule) (extent : Extent) where
   ends (suc n) s (e ∷ es) g p =
       by-cases (s .engine .«under_way») (λ u. visit-ends n (ends n) s (e ∷ es) g u p) (λ u. take-ends n (ends n) s e es u p)
 
+  -- what is finished has nothing left, so entries may be done in parts
+  finished-once : (s : Scene) → Going (s .engine) → finishedBy rule extent s ≡ finishedBy rule extent (finishedBy rule extent s)
+  unfolding doneBy
+  finished-once s g = sym (rest-finished rule extent (finishedBy rule extent s) (ends (stepsBy rule extent s []) s [] g refl .1))
+
+  parts : (xs ys : List Entry) (s : Scene) → Going (s .engine) → doneBy rule extent s (xs ++ ys) ≡ doneBy rule extent (doneBy rule extent s xs) ys
+  unfolding doneBy
+  parts [] [] s g = finished-once s g
+  parts [] (y ∷ ys) s g = ap (λ t. doneBy rule extent (takenBy rule extent t y) ys) (finished-once s g)
+  parts (x ∷ xs) ys s g =
+      let t = finishedBy rule extent s in parts xs ys (takenBy rule extent t x) (going-in t x)
+
+  going-none : (e : Engine) → e .«under_way» ≡ false → Going e
+  going-none e h u = absurd (false≢true (sym h ∙ u))
+
+pub done-parts : (rule : Rule) (extent : Extent) (s : Scene) (xs ys : List Entry) → s .engine .«under_way» ≡ false
+    → doneBy rule extent s (xs ++ ys) ≡ doneBy rule extent (doneBy rule extent s xs) ys
+done-parts rule extent s xs ys h = parts rule extent xs ys s (going-none rule extent (s .engine) h)
+
 pub lists-end : ListsEnd
 lists-end rule extent s es h =
-    let r = ends rule extent (stepsBy rule extent s es) s es (λ u. absurd (false≢true (sym h ∙ u))) refl in
+    let r = ends rule extent (stepsBy rule extent s es) s es (going-none rule extent (s .engine) h) refl in
     record { done = r .0; idle = r .1 }
 
 pub lists-unchanged : ListsUnchanged

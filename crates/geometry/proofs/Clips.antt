@@ -1,19 +1,21 @@
--- A reversed rectangle holds no point, and a place lies in its buffer.
+-- A reversed rectangle holds no point; a place lies in its buffer and says which pixel it is of.
 -- Assumes nothing.
-use mathlib.Core.Path.{_≡_, ap, _∙_}
+use mathlib.Core.Path.{_≡_, ap, sym, _∙_}
 use mathlib.Core.Bool.{false, _&&_, and-assoc, and-false}
 use mathlib.Core.Logic.{⊎-elim}
-use Prim.Native.Nat.{ℕ, _+_, _-_, _*_, _^_, _≤_, _<_}
+use Prim.Native.Nat.{ℕ, _+_, _-_, _*_, _/_, _%_, _^_, _≤_, _<_}
 use native.Mathlib.Nat.{mul-le-mul, mul-le-mul-right, add-mul, one-mul, mul-comm}
 use native.Mathlib.Omega.{arith}
-use borrow.Author.Tests.{leb-true, ltb-true, le-leb, lt-leb, lt-ltb, le-ltb}
-use lib.Dec.{leb, ltb}
-use Rattle.lemmas.proofs.Booleans.{by-cases, and-left, and-right}
+use borrow.Author.Tests.{leb-true, le-leb, lt-leb, lt-ltb, le-ltb}
+use lib.Arith.{digits-div, digits-mod}
+use lib.Dec.{leb}
+use Rattle.lemmas.proofs.Booleans.{by-cases}
 use Rattle.geometry.specs.Coordinates.{origin}
-use Rattle.geometry.specs.Clip.{inBuffer, placeOf, ReversedHoldsNothing, PlacesFit}
+use Rattle.geometry.specs.Clip.{inBuffer, placeIn, placeOf, ReversedHoldsNothing, PlacesFit, PlacesDiffer}
 use Rattle.geometry.specs.declared.Extent.{Extent}
 use Rattle.geometry.specs.declared.Point.{Point}
 use Rattle.geometry.specs.declared.Place.the-variants.{At, Outside}
+use Rattle.geometry.proofs.Windows.{buffer-of}
 
 -- from a above b, nothing lies between
 between : (a b c : ℕ) → b < a → (leb a c && leb c b) ≡ false
@@ -80,15 +82,25 @@ places-fit extent p i e =
     let height = extent .height in
     by-cases (inBuffer width height p)
     (λ t.
-    let found : At ((p .y - origin) * width + (p .x - origin)) ≡ At i = rw t at e in
-    let same : (p .y - origin) * width + (p .x - origin) ≡ i = cc in
-    let tall = ltb (p .y - origin) height in
-    let wide = ltb (p .x - origin) width in
-    rw (← same)
-    (area width height (p .x - origin) (p .y - origin)
-    (ltb-true (p .x - origin) width (and-right (leb origin (p .x) && leb origin (p .y)) wide (and-left (leb origin (p .x) && leb origin (p .y) && wide) tall t)))
-    (ltb-true (p .y - origin) height (and-right (leb origin (p .x) && leb origin (p .y) && wide) tall t))))
+    let found : At (placeIn width p) ≡ At i = rw t at e in
+    let same : placeIn width p ≡ i = cc in
+    let inside = buffer-of width height p t in
+    rw (← same) (area width height (p .x - origin) (p .y - origin) (inside .2) (inside .3)))
     (λ t. absurd (none-at (rw t at e)))
   where
     none-at : Outside ≡ At i → ⊥
     none-at q = let z : _≡_ {A = ℕ} 0 1 = cc in omega arith
+
+-- column and row are a place's digits to the base of the width
+pub places-differ : PlacesDiffer
+places-differ extent p q h k e =
+    let width = extent .width in
+    let one = buffer-of width (extent .height) p h in
+    let two = buffer-of width (extent .height) q k in
+    let column : p .x - origin ≡ q .x - origin =
+    sym (digits-mod (p .y - origin) (one .2)) ∙ ap (λ i. i % width) e ∙ digits-mod (q .y - origin) (two .2) in
+    let row : p .y - origin ≡ q .y - origin =
+    sym (digits-div (p .y - origin) (one .2)) ∙ ap (λ i. i / width) e ∙ digits-div (q .y - origin) (two .2) in
+    let x : p .x ≡ q .x = omega (arith, one .0, two .0) in
+    let y : p .y ≡ q .y = omega (arith, one .1, two .1) in
+    λ i. record { x = x i; y = y i }

@@ -4,6 +4,7 @@ pub mod Clips
 pub mod Windows
 pub mod Lines
 pub mod LineRule
+pub mod Ends
 pub mod Blits
 pub mod Visibility
 pub mod Stretches

@@ -1,5 +1,5 @@
 -- The coordinates of a line's pixels, in naturals: each is nearest the exact line, no other is, on the major axis it is
--- on the exact line, and the ends are A and B.
+-- on the exact line, so that no two pixels are the same, and the ends are A and B.
 -- Assumes nothing.
 use mathlib.Core.Path.{_≡_, refl, ap, sym, _∙_}
 use mathlib.Core.Bool.{Bool, true, false, _&&_}
@@ -10,7 +10,7 @@ use borrow.Author.Tests.{eqb-true, eqb-false, eq-eqb, ne-eqb, leb-true, leb-fals
 use lib.Dec.{eqb, leb, ltb, ltb→lt, nltb→le, not-T}
 use Rattle.lemmas.proofs.Booleans.{by-cases}
 use Rattle.geometry.specs.Coordinates.{coordinateOf, pointOf}
-use Rattle.geometry.specs.Line.{distance, stepsOf, lineCount, exact, nearestOf, linePoint, lineVisit, towards, OneAtEach, FromAToB}
+use Rattle.geometry.specs.Line.{distance, stepsOf, lineCount, exact, nearestOf, linePoint, lineVisit, xMajor, towards, OneAtEach, FromAToB, PointsDiffer}
 use Rattle.geometry.specs.declared.Point.{Point}
 use Rattle.geometry.specs.declared.Visit.the-variants.{At, Past}
 use Rattle.geometry.proofs.Whole.{x-within, y-within}
@@ -86,6 +86,25 @@ one-at-each a b i l = (
   λ e. along (stepsOf a b) i (a .x) (b .x) l (omega (arith, leb-true (distance (a .y) (b .y)) (distance (a .x) (b .x)) e)),
   λ e. along (stepsOf a b) i (a .y) (b .y) l (omega (arith, leb-false (distance (a .y) (b .y)) (distance (a .x) (b .x)) e)),
 )
+
+towards-differ : (a b i j : ℕ) → i ≤ distance a b → j ≤ distance a b → towards a b i ≡ towards a b j → i ≡ j
+towards-differ a b i j h k e =
+    by-cases (leb a b) (λ t. let q : a + i ≡ a + j = rw t at e in omega arith)
+    (λ t. let q : a - i ≡ a - j = rw t at e in omega (arith, leb-false a b t))
+
+pub points-differ : PointsDiffer
+points-differ a b i j h k e =
+    let dx = distance (a .x) (b .x) in
+    let dy = distance (a .y) (b .y) in
+    by-cases (xMajor a b)
+    (λ t.
+    let long = leb-true dy dx t in
+    towards-differ (a .x) (b .x) i j (omega (arith, h, long)) (omega (arith, k, long))
+    (sym (one-at-each a b i h .0 t) ∙ ap (λ (p : Point). p .x) e ∙ one-at-each a b j k .0 t))
+    (λ t.
+    let long = leb-false dy dx t in
+    towards-differ (a .y) (b .y) i j (omega (arith, h, long)) (omega (arith, k, long))
+    (sym (one-at-each a b i h .1 t) ∙ ap (λ (p : Point). p .y) e ∙ one-at-each a b j k .1 t))
 
 first : (n a b : ℕ) → nearestOf n 0 a b ≡ a
 first zero a b = nearest-zero 0 0 a b refl

@@ -1,6 +1,6 @@
 -- The clip rectangle and the buffer's bounds (01, Pixels, and What the engine has).
 use mathlib.Core.Path.{_≡_}
-use mathlib.Core.Bool.{Bool, false, not, cond, _&&_}
+use mathlib.Core.Bool.{Bool, true, false, not, cond, _&&_}
 use mathlib.Core.Logic.{_⊎_}
 use Prim.Native.Nat.{ℕ, _+_, _-_, _*_, _<_, min, max}
 use lib.Dec.{leb, ltb}
@@ -59,9 +59,15 @@ WindowLetsThrough =
     → inWindow (windowOf extent clip topLeft bottomRight) p
     ≡ (not (clip && not (inRect (rectOf topLeft bottomRight) p)) && inBuffer (extent .width) (extent .height) p)
 
--- "A reversed clip draws nothing", and a place lies in its buffer; proved in proofs/Clips.antt.
+-- "A reversed clip draws nothing"; a place lies in its buffer, and two pixels at one place are the same. Proved in
+-- proofs/Clips.antt.
 abbrev pub ReversedHoldsNothing : Type 0
 ReversedHoldsNothing = (r : Rect) → (r .right < r .left) ⊎ (r .bottom < r .top) → (p : Point) → inRect r p ≡ false
 
 abbrev pub PlacesFit : Type 0
 PlacesFit = (extent : Extent) (p : Point) (i : ℕ) → placeOf extent p ≡ At i → i < extent .width * extent .height
+
+abbrev pub PlacesDiffer : Type 0
+PlacesDiffer =
+    (extent : Extent) (p q : Point) → inBuffer (extent .width) (extent .height) p ≡ true
+    → inBuffer (extent .width) (extent .height) q ≡ true → placeIn (extent .width) p ≡ placeIn (extent .width) q → p ≡ q

@@ -74,3 +74,11 @@ OneAtEach =
 
 abbrev pub FromAToB : Type 0
 FromAToB = (a b : Point) → (linePoint a b 0 ≡ a) × (linePoint a b (stepsOf a b) ≡ b)
+
+-- No two pixels of a line are the same point.
+abbrev pub PointsDiffer : Type 0
+PointsDiffer = (a b : Point) (i j : ℕ) → i ≤ stepsOf a b → j ≤ stepsOf a b → linePoint a b i ≡ linePoint a b j → i ≡ j
+
+-- "The manual asks only that A to B match B to A": pixel i from A is pixel n - i from B; proved in proofs/Ends.antt.
+abbrev pub SameFromB : Type 0
+SameFromB = (a b : Point) (i : ℕ) → i ≤ stepsOf a b → linePoint a b i ≡ linePoint b a (stepsOf a b - i)

@@ -44,7 +44,7 @@ not-blit c h =
     (λ t. absurd (false≢true (sym (ap (λ n. eqb n 2 || eqb n 5) (eqb-true (c .opcode) 1 t)) ∙ h)))
     (λ t. t)
 
-count-is : (extent : Extent) (e : Engine) → isLine (commandIn e) ≡ true → countOf extent e ≡ lineCount (pointOf (lineStart e)) (pointOf (e .registers .xy1)) (commandIn e .nlst)
+pub count-is : (extent : Extent) (e : Engine) → isLine (commandIn e) ≡ true → countOf extent e ≡ lineCount (pointOf (lineStart e)) (pointOf (e .registers .xy1)) (commandIn e .nlst)
 count-is extent e h = sym (count-line extent e (not-blit (commandIn e) h) h)
 
 -- the mark of a value is a pixel plotted with its pen
@@ -116,14 +116,14 @@ module _ (extent : Extent) (e : Engine) (line : isLine (commandIn e) ≡ true) w
     dash-pattern s l = rw (line, s)
 
   -- the two kinds of strokes
-  abbrev solidState : List ℕ → ℕ → Dashed
+  abbrev pub solidState : List ℕ → ℕ → Dashed
   solidState l k =
       dashed (pixelsOf (extent .width) window (penIn e (e .registers .fore)) (pointOf (lineStart e)) (pointOf (e .registers .xy1)) (e .visited) k l) (e .pattern)
 
   abbrev dashState : List ℕ → ℕ → Dashed
   dashState l k = dashPixels (extent .width) window (dashesIn e) (pointOf (lineStart e)) (pointOf (e .registers .xy1)) (e .visited) k (dashed l (e .pattern))
 
-  solid-strokes : commandIn e .solid ≡ true → (to : Bool) (other l : List ℕ) → Marked extent e to other (solidState l)
+  pub solid-strokes : commandIn e .solid ≡ true → (to : Bool) (other l : List ℕ) → Marked extent e to other (solidState l)
   unfolding pixelsOf
   solid-strokes s to other l =
       record {

@@ -4,3 +4,4 @@ pub mod Normal
 pub mod Examples
 pub mod Wide
 pub mod Codes
+pub mod Undone

@@ -25,6 +25,9 @@ old-low code s d m =
     byte-ext (λ k. newBit code (bit k s) (bit k (d % 256)) (bit k m)) (λ k. newBit code (bit k s) (bit k d) (bit k m))
     (λ k h. ap (λ x. newBit code (bit k s) x (bit k m)) (bit-low k d h))
 
+pub newByte-any-lt : (code s d m : ℕ) → code < 256 → d < 256 → newByte code s d m < 256
+newByte-any-lt code s d m hc hd = rw (← newByte-low code s d m) (newByte-lt code (s % 256) d (m % 256) hc hd (omega arith))
+
 module _ (code m : ℕ) (hc : code < 256) where
   mask-small : m % 256 < 256
   mask-small = omega arith

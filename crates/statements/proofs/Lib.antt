@@ -9,4 +9,6 @@ pub mod Commutes
 pub mod Sequence
 pub mod Refusals
 pub mod Images
+pub mod Bytes
+pub mod SolidLines
 pub mod Rows

@@ -3,4 +3,5 @@ pub mod World
 pub mod Demand
 pub mod Refusals
 pub mod Images
+pub mod SolidLines
 pub mod Examples
