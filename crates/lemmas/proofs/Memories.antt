@@ -4,7 +4,7 @@ use mathlib.Core.Path.{_≡_, ap, ap₂, sym, _∙_}
 use mathlib.Core.List.{List, [], _++_, append-assoc, append-nil}
 use Prim.Native.Nat.{ℕ, _+_, _-_, _≤_, _<_}
 use native.Mathlib.Omega.{arith}
-use lib.ListN.{length, getD, take, drop, length-append, length-drop, take-append-drop, List·getD-append}
+use lib.ListN.{length, getD, take, drop, length-append, length-drop, drop-of-length-le, take-append-drop, List·getD-append}
 use lib.Seq.{getD-append-add, getD-take, getD-drop, length-take-le, take-at, drop-at, drop-drop}
 use Rattle.lemmas.specs.Memory.{putInto}
 
@@ -58,3 +58,10 @@ unfolding putInto
 put-none l at =
     let same : at + 0 ≡ at = omega arith in
     ap (λ front. front ++ drop (at + 0) l) (append-nil (take at l)) ∙ ap (λ k. take at l ++ drop k l) same ∙ take-append-drop at l
+
+-- as many bytes as the memory has replace it
+pub put-whole : (l bytes : List ℕ) → length bytes ≡ length l → putInto l 0 bytes ≡ bytes
+unfolding putInto
+put-whole l bytes e =
+    let end : 0 + length bytes ≡ length bytes = omega arith in
+    ap (λ k. bytes ++ drop k l) end ∙ ap (λ rest. bytes ++ rest) (drop-of-length-le l {i = length bytes} (omega (arith, e))) ∙ append-nil bytes
