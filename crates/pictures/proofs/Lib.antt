@@ -1,0 +1,6 @@
+pub mod Texts
+pub mod Stages
+pub mod Readers
+pub mod Decimals
+pub mod Puts
+pub mod Rasters
