@@ -38,10 +38,13 @@ module _ (w h : ℕ) (l : List ℕ) where
     unfolding rasterOf
     raster-unframed x = rw (picture-is, x)
 
-    pub raster-framed : framed ≡ true → (t : Bool) → t ≡ saysSize w h (slice 2 end l)
-        → cond t (From (length l - w * h)) Nowhere ≡ rasterOf w h l
+    pub raster-unsaid : framed ≡ true → saysSize w h (slice 2 end l) ≡ false → Nowhere ≡ rasterOf w h l
     unfolding rasterOf
-    raster-framed x t y = rw (picture-is, x, y)
+    raster-unsaid x y = rw (picture-is, x, y)
+
+    pub raster-from : framed ≡ true → saysSize w h (slice 2 end l) ≡ true → (start : ℕ) → start ≡ length l - w * h → From start ≡ rasterOf w h l
+    unfolding rasterOf
+    raster-from x y start i = rw (picture-is, x, y, i)
 
   -- what starts a picture
   pub picture-starts : isPicture w h l ≡ true → (w * h + 3 ≤ length l) × (getD l 0 0 ≡ 80) × (getD l 1 0 ≡ 53)

@@ -1,9 +1,8 @@
--- Each answer by the tests that the picture passes (`raster-short`, `raster-unframed`, `raster-framed`).
+-- Each answer by the tests that the picture passes (`raster-short`, `raster-unframed`, `raster-unsaid`, `raster-from`).
 use mathlib.Core.Path.{sym, _∙_}
-use mathlib.Core.Bool.{true, false}
 use native.Mathlib.Omega.{arith}
 use borrow.Author.Tests.{not-true, not-false}
-use Rattle.pictures.proofs.Rasters.{raster-short, raster-unframed, raster-framed}
+use Rattle.pictures.proofs.Rasters.{raster-short, raster-unframed, raster-unsaid, raster-from}
 use borrow.Author.Needs.{needs}
 use Rattle.pictures.proofs.reading.raster_start.Statement.{statement}
 use Rattle.pictures.proofs.reading.raster_start.Tie as tie
@@ -44,14 +43,14 @@ says-size-requires c κs = search needs
 returns-4 : tie.Need-returns-4
 returns-4 c =
     let o = c .before .before in
-    raster-framed _ _ _ (omega arith) _ (omega arith) _ (o .before .is-white .ensures) (not-false _ (o .if3 .left)) true
-    (sym (c .if4 .taken) ∙ c .before .says-size .ensures)
+    raster-from _ _ _ (omega arith) _ (omega arith) _ (o .before .is-white .ensures) (not-false _ (o .if3 .left))
+    (sym (c .before .says-size .ensures) ∙ c .if4 .taken) _ (omega arith)
 
 returns-5 : tie.Need-returns-5
 returns-5 c =
     let o = c .before .before in
-    raster-framed _ _ _ (omega arith) _ (omega arith) _ (o .before .is-white .ensures) (not-false _ (o .if3 .left)) false
-    (sym (c .if4 .left) ∙ c .before .says-size .ensures)
+    raster-unsaid _ _ _ (omega arith) _ (omega arith) _ (o .before .is-white .ensures) (not-false _ (o .if3 .left))
+    (sym (c .before .says-size .ensures) ∙ c .if4 .left)
 
 pub raster-start-spec : {M : Type 1} → statement M
 raster-start-spec =
