@@ -92,7 +92,8 @@ importsAs NotAPicture buffer = leaves 11 buffer
 picture-long : (width height : ℕ) (l : List ℕ) → isPicture width height l ≡ true → length (pixelsOf width height l) ≡ width * height
 unfolding isPicture
 picture-long width height l h =
-    let fits = leb-true (width * height + 3) (length l) (and-left (leb (width * height + 3) (length l)) _ h) in
+    let long = leb (width * height + 3) (length l) in
+    let fits = leb-true (width * height + 3) (length l) (and-left long _ (and-left (long && _) _ h)) in
     length-drop (length l - width * height) l ∙ omega (arith, fits)
 
 module _ (z : Sizes) (a p : Slot) (number : ℕ) (picture buffer : List ℕ) where
