@@ -4,3 +4,5 @@ pub mod Readers
 pub mod Decimals
 pub mod Puts
 pub mod Rasters
+pub mod RoundTrip
+pub mod Examples

@@ -6,14 +6,13 @@ use Prim.Native.Nat.{ℕ, _+_, _-_, _*_, _/_, _%_, _≤_, _<_}
 use native.Mathlib.Omega.{arith}
 use borrow.Author.Tests.{eq-eqb, ne-eqb, le-leb, lt-leb}
 use lib.ListN.{length, set, take, drop, length-append, length-drop}
-use lib.Seq.{sets, sets-eq, take-all, take-length, drop-drop, drop-length}
+use lib.Seq.{sets-eq, take-all, take-length, drop-drop, drop-length}
 use Rattle.lemmas.proofs.Memories.{sets-join, sets-front}
 use Rattle.lemmas.proofs.Products.{product-most}
 use Rattle.pictures.specs.Texts.{ascii}
 use Rattle.pictures.specs.Pictures.{decimalOf, headerOf, pictureOf, sizeOf}
 use Rattle.pictures.specs.Lent.{Lent, lent}
 use Rattle.pictures.specs.Writing.{putAt, writtenOf}
-use Rattle.pictures.specs.declared.writing.WriteStatus.{WriteStatus}
 use Rattle.pictures.specs.declared.writing.WriteStatus.the-variants.{Done, WrongSize, TooShort}
 use Rattle.pictures.proofs.Decimals.{decimal-last, decimal-tenth, length-most}
 
@@ -31,6 +30,10 @@ put-copied l bytes part at n h e f =
     ap₂ lent (ap (λ (k : ℕ). at + k) e)
     (rw (none, append-nil part, f, take-length bytes, part-is l at, drop-drop (length bytes) at l)
     (sym (append-assoc (take at l) bytes (drop (at + length bytes) l)) ∙ sym (sets-eq bytes l at h)))
+
+-- the place after bytes that were put
+pub place : {p q : Lent ℕ} → p ≡ q → p .answer ≡ q .answer
+place e = ap (λ (p : Lent ℕ). p .answer) e
 
 -- two parts one after the other
 pub put-then : (l xs ys : List ℕ) (at : ℕ) (p q : Lent ℕ) → p ≡ putAt l at xs → q ≡ putAt (p .bytes) (p .answer) ys → q ≡ putAt l at (xs ++ ys)

@@ -1,20 +1,20 @@
+-- Each answer by the tests that the picture passes (`raster-short`, `raster-unframed`, `raster-unsaid`, `raster-from`).
+use mathlib.Core.Path.{sym, _∙_}
+use native.Mathlib.Omega.{arith}
+use borrow.Author.Tests.{not-true, not-false}
+use Rattle.pictures.proofs.Rasters.{raster-short, raster-unframed, raster-unsaid, raster-from}
 use borrow.Author.Needs.{needs}
 use Rattle.pictures.proofs.reading.raster_start.Statement.{statement}
 use Rattle.pictures.proofs.reading.raster_start.Tie as tie
-use Rattle.pictures.proofs.reading.raster_start.Reads as reads
-use Rattle.pictures.proofs.reading.raster_start.Lts as lts
-use Rattle.pictures.proofs.headers.is_white.Reads as is-white-reads
-use Rattle.pictures.proofs.headers.says_size.Reads as says-size-reads
-use Rattle.pictures.proofs.sizes.area.Reads as area-reads
 
 area-requires : tie.Need-area-requires
 area-requires c κs = search needs
 
 returns : tie.Need-returns
-returns c = ?
+returns c = raster-short _ _ _ (omega arith)
 
 returns-2 : tie.Need-returns-2
-returns-2 c = ?
+returns-2 c = raster-short _ _ _ (omega arith)
 
 sub-start : tie.Need-sub-start
 sub-start c = search needs
@@ -35,16 +35,22 @@ is-white-requires : tie.Need-is-white-requires
 is-white-requires c κs = search needs
 
 returns-3 : tie.Need-returns-3
-returns-3 c = ?
+returns-3 c = raster-unframed _ _ _ (omega arith) _ (omega arith) _ (c .before .is-white .ensures) (not-true _ (c .if3 .taken))
 
 says-size-requires : tie.Need-says-size-requires
 says-size-requires c κs = search needs
 
 returns-4 : tie.Need-returns-4
-returns-4 c = ?
+returns-4 c =
+    let o = c .before .before in
+    raster-from _ _ _ (omega arith) _ (omega arith) _ (o .before .is-white .ensures) (not-false _ (o .if3 .left))
+    (sym (c .before .says-size .ensures) ∙ c .if4 .taken) _ (omega arith)
 
 returns-5 : tie.Need-returns-5
-returns-5 c = ?
+returns-5 c =
+    let o = c .before .before in
+    raster-unsaid _ _ _ (omega arith) _ (omega arith) _ (o .before .is-white .ensures) (not-false _ (o .if3 .left))
+    (sym (c .before .says-size .ensures) ∙ c .if4 .left)
 
 pub raster-start-spec : {M : Type 1} → statement M
 raster-start-spec =

@@ -1,11 +1,12 @@
+-- The product fits 64 bits (`product-most`).
+use native.Mathlib.Omega.{arith}
+use Rattle.lemmas.proofs.Products.{product-most}
 use borrow.Author.Needs.{needs}
 use Rattle.pictures.proofs.sizes.area.Statement.{statement}
 use Rattle.pictures.proofs.sizes.area.Tie as tie
-use Rattle.pictures.proofs.sizes.area.Reads as reads
-use Rattle.pictures.proofs.sizes.area.Lts as lts
 
 mul-result : tie.Need-mul-result
-mul-result c = ?
+mul-result c = omega (arith, product-most (c .args .width) (c .args .height) (search needs) (search needs))
 
 returns : tie.Need-returns
 returns c = search needs

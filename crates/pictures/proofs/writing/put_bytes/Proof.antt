@@ -1,9 +1,8 @@
+-- Copying over the part from a place on puts the bytes there (`put-copied`).
+use Rattle.pictures.proofs.Puts.{put-copied}
 use borrow.Author.Needs.{needs}
 use Rattle.pictures.proofs.writing.put_bytes.Statement.{statement}
 use Rattle.pictures.proofs.writing.put_bytes.Tie as tie
-use Rattle.pictures.proofs.writing.put_bytes.Reads as reads
-use Rattle.pictures.proofs.writing.put_bytes.Lts as lts
-use Rattle.bytes.proofs.copy.Reads as copy-reads
 
 sub-copy : tie.Need-sub-copy
 sub-copy c = search needs
@@ -24,7 +23,10 @@ same-length : tie.Need-same-length
 same-length c = search needs
 
 returns : tie.Need-returns
-returns c = ?
+returns c =
+    let s = c .before .before .before .before .before .before in
+    let copied = c .before .before .copy .ensures in
+    put-copied (s .args .output .now) (s .args .bytes .now) _ (s .args .at) _ (s .pre) (copied .0) (copied .1)
 
 pub put-bytes-spec : {M : Type 1} → statement M
 put-bytes-spec =
