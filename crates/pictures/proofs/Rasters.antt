@@ -41,13 +41,15 @@ module _ (w h : ℕ) (l : List ℕ) where
     unfolding rasterOf
     raster-unsaid x y = rw (picture-is, x, y)
 
-    pub raster-from : framed ≡ true → saysSize w h (slice 2 end l) ≡ true → (start : ℕ) → start ≡ length l - w * h → From start ≡ rasterOf w h l
+    pub raster-from : framed ≡ true → saysSize w h (slice 2 end l) ≡ true
+        → (start : ℕ) → start ≡ length l - w * h → From start ≡ rasterOf w h l
     unfolding rasterOf
     raster-from x y start i = rw (picture-is, x, y, i)
 
   pub picture-tests : isPicture w h l ≡ true →
       let end = length l - (w * h + 1) in
-      (w * h + 3 ≤ length l) × (getD l 0 0 ≡ 80) × (getD l 1 0 ≡ 53) × (isWhite (getD l end 0) ≡ true) × (saysSize w h (slice 2 end l) ≡ true)
+      (w * h + 3 ≤ length l) × (getD l 0 0 ≡ 80) × (getD l 1 0 ≡ 53) × (isWhite (getD l end 0) ≡ true)
+      × (saysSize w h (slice 2 end l) ≡ true)
   unfolding isPicture
   picture-tests e =
       let end = length l - (w * h + 1) in

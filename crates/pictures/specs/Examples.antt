@@ -36,7 +36,7 @@ Comments =
     × (says "\n16 6 255#c" ≡ false)
     × (says "\n1#x\n 6 6 255" ≡ false)
 
--- No number wraps: 16 and 2 to the power of 32, and of 64.
+-- No number wraps: 16 more than 2 to the power of 32, and than 2 to the power of 64.
 abbrev pub LargeNumbers : Type 0
 LargeNumbers = (says "\n4294967312 6 255" ≡ false) × (says "\n18446744073709551632 6 255" ≡ false)
 

@@ -54,7 +54,8 @@ last-fits : (t : ℕ) (c : lts.After-slice-known2 (below t, reads.Post) (at t) r
     → c .before .before .put-decimal .result < length (c .before .before .put-decimal .last .0)
 last-fits t c =
     let p = c .before .before .put-decimal in
-    omega (arith, length-tenth (c .before .before .before .before .before .before .args .n) (c .before .before .before .before .if1 .left), p .kept .0, place (p .ensures))
+    let o = c .before .before .before .before in
+    omega (arith, length-tenth (o .before .before .args .n) (o .if1 .left), p .kept .0, place (p .ensures))
 
 slice-write-output-2 : (t : ℕ) → lts.Need-slice-write-output-2 (below t, reads.Post) (at t) reads.Post
 slice-write-output-2 t c = last-fits t c
