@@ -1,16 +1,16 @@
 -- The digits of a number: the last after those of its tenth; all are digits, and they make the number.
 -- Assumes nothing.
 use mathlib.Core.Path.{_≡_, refl, ap, sym, _∙_}
-use mathlib.Core.Bool.{Bool, true, false, _&&_, false≢true}
+use mathlib.Core.Bool.{Bool, true, false, _&&_}
 use mathlib.Core.List.{List, [], _∷_, _++_, foldl-append}
-use Prim.Native.Nat.{ℕ, zero, suc, _+_, _-_, _*_, _/_, _%_, _≤_, _<_}
+use Prim.Native.Nat.{ℕ, zero, suc, _+_, _/_, _%_, _≤_, _<_}
 use native.Mathlib.Nat.{not-suc-le-zero}
 use native.Mathlib.Omega.{arith}
 use borrow.Author.Tests.{lt-ltb, le-ltb, ne-eqb, ltb-true, ltb-false, le-leb}
 use lib.Dec.{eqb, ltb}
 use lib.ListN.{length, length-append}
 use Rattle.lemmas.proofs.Booleans.{by-cases, and-left, and-right, both}
-use Rattle.pictures.specs.Texts.{isDigit, startsWith, valueFrom}
+use Rattle.pictures.specs.Texts.{isDigit, startsWith, withDigit, valueFrom}
 use Rattle.pictures.specs.Pictures.{decimalBy, decimalOf}
 
 by-last : (a n : ℕ) → n < 10 → decimalBy (suc a) n ≡ (48 + n) ∷ []
@@ -108,8 +108,7 @@ decimal n = all-decimals Decimal one more n
           digits = all-append x last (p .digits) (both (digit-is (n % 10) (omega arith)) refl);
           some = omega arith;
           few = omega (arith, p .few);
-          value =
-              foldl-append (λ (n b : ℕ). n * 10 + (b - 48)) 0 x last ∙ ap (λ (v : ℕ). v * 10 + (48 + n % 10 - 48)) (p .value) ∙ omega arith;
+          value = foldl-append withDigit 0 x last ∙ ap (λ (v : ℕ). withDigit v (48 + n % 10)) (p .value) ∙ omega arith;
           unpadded = λ l. starts-append (eqb 48) x last (p .some) ∙ p .unpadded (omega arith);
         }
 

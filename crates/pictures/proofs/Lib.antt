@@ -2,5 +2,8 @@ pub mod Texts
 pub mod Stages
 pub mod Readers
 pub mod Decimals
+pub mod Numerals
 pub mod Puts
 pub mod Rasters
+pub mod RoundTrip
+pub mod Examples

@@ -1,8 +1,8 @@
 -- A picture's parts, and where its pixels start, by the tests that it passes; what reading answers by them.
 -- Assumes nothing.
 use mathlib.Core.Path.{_≡_, ap, sym, _∙_}
-use mathlib.Core.Bool.{Bool, true, false, cond, _&&_}
-use mathlib.Core.List.{List, [], _++_, append-nil}
+use mathlib.Core.Bool.{Bool, true, false, _&&_}
+use mathlib.Core.List.{List, _++_, append-nil}
 use Prim.Native.Nat.{ℕ, _+_, _-_, _*_, _≤_, _<_}
 use native.Mathlib.Omega.{arith}
 use borrow.Author.Tests.{eq-eqb, ne-eqb, le-leb, lt-leb, eqb-true, leb-true}
@@ -11,10 +11,9 @@ use lib.ListN.{length, getD, take, drop, length-drop}
 use lib.Seq.{slice, take-length, drop-length}
 use Rattle.lemmas.proofs.Booleans.{by-cases, and-left, and-right}
 use Rattle.pictures.specs.Texts.{isWhite, saysSize}
-use Rattle.pictures.specs.Pictures.{isPicture, pixelsOf}
+use Rattle.pictures.specs.Pictures.{isPicture}
 use Rattle.pictures.specs.Lent.{lent}
 use Rattle.pictures.specs.Reading.{rasterOf, readOf}
-use Rattle.pictures.specs.declared.reading.Raster.{Raster}
 use Rattle.pictures.specs.declared.reading.Raster.the-variants.{From, Nowhere}
 use Rattle.pictures.specs.declared.reading.ReadStatus.the-variants.{Done, WrongSize, NotAPicture}
 use Rattle.pictures.proofs.Puts.{part-is}
@@ -42,23 +41,31 @@ module _ (w h : ℕ) (l : List ℕ) where
     unfolding rasterOf
     raster-unsaid x y = rw (picture-is, x, y)
 
-    pub raster-from : framed ≡ true → saysSize w h (slice 2 end l) ≡ true → (start : ℕ) → start ≡ length l - w * h → From start ≡ rasterOf w h l
+    pub raster-from : framed ≡ true → saysSize w h (slice 2 end l) ≡ true
+        → (start : ℕ) → start ≡ length l - w * h → From start ≡ rasterOf w h l
     unfolding rasterOf
     raster-from x y start i = rw (picture-is, x, y, i)
 
-  -- what starts a picture
-  pub picture-starts : isPicture w h l ≡ true → (w * h + 3 ≤ length l) × (getD l 0 0 ≡ 80) × (getD l 1 0 ≡ 53)
+  pub picture-tests : isPicture w h l ≡ true →
+      let end = length l - (w * h + 1) in
+      (w * h + 3 ≤ length l) × (getD l 0 0 ≡ 80) × (getD l 1 0 ≡ 53) × (isWhite (getD l end 0) ≡ true)
+      × (saysSize w h (slice 2 end l) ≡ true)
   unfolding isPicture
-  picture-starts e =
+  picture-tests e =
+      let end = length l - (w * h + 1) in
       let a = leb (w * h + 3) (length l) in
       let p = eqb (getD l 0 0) 80 in
       let q = eqb (getD l 1 0) 53 in
-      let r = isWhite (getD l (length l - (w * h + 1)) 0) in
-      let front : (a && (p && q && r)) ≡ true = and-left (a && (p && q && r)) _ e in
-      let five : (p && q) ≡ true = and-left (p && q) r (and-right a (p && q && r) front) in (
+      let r = isWhite (getD l end 0) in
+      let s = saysSize w h (slice 2 end l) in
+      let front : (a && (p && q && r)) ≡ true = and-left (a && (p && q && r)) s e in
+      let three : (p && q && r) ≡ true = and-right a (p && q && r) front in
+      let two : (p && q) ≡ true = and-left (p && q) r three in (
         leb-true (w * h + 3) (length l) (and-left a (p && q && r) front),
-        eqb-true (getD l 0 0) 80 (and-left p q five),
-        eqb-true (getD l 1 0) 53 (and-right p q five),
+        eqb-true (getD l 0 0) 80 (and-left p q two),
+        eqb-true (getD l 1 0) 53 (and-right p q two),
+        and-right (p && q) r three,
+        and-right (a && (p && q && r)) s e,
       )
 
   -- ---- where a raster was found or not
@@ -82,7 +89,7 @@ module _ (w h : ℕ) (l : List ℕ) where
   pub raster-fits : (start : ℕ) → From start ≡ rasterOf w h l → (start ≤ length l) × (length (drop start l) ≡ w * h)
   raster-fits start e =
       let p = raster-found start e in
-      let long : w * h + 3 ≤ length l = picture-starts (p .0) .0 in
+      let long : w * h + 3 ≤ length l = picture-tests (p .0) .0 in
       (omega (arith, p .1), length-drop start l ∙ omega (arith, p .1))
 
   -- ---- what reading answers

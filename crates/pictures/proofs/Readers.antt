@@ -11,7 +11,7 @@ use lib.Dec.{eqb, leb}
 use lib.ListN.{length, getD}
 use lib.Seq.{slice, slice-cons, slice-empty}
 use Rattle.pictures.specs.Texts.{endsComment, withoutComments, saysSize}
-use Rattle.pictures.specs.Readers.{wantedOf, goesOn, accepts}
+use Rattle.pictures.specs.Readers.{wantedOf, goesOn, Follows, accepts}
 use Rattle.pictures.specs.declared.headers.Stage.{Stage}
 use Rattle.pictures.specs.declared.headers.Stage.the-variants.{Start, Number}
 use Rattle.pictures.specs.declared.headers.Reader.{Reader}
@@ -31,11 +31,12 @@ module _ (w h : ℕ) where
     unfolding withoutComments
     in-comment f p q l = rw (q, p)
 
-    pub comment-starts : r .comment ≡ false → b ≡ 35 → (l : List ℕ) → accepts w h (reader true (r .stage)) l ≡ accepts w h r (b ∷ l)
+    pub comment-starts : r .comment ≡ false → b ≡ 35
+        → (l : List ℕ) → accepts w h (reader true (r .stage)) l ≡ accepts w h r (b ∷ l)
     unfolding withoutComments
     comment-starts p q l = rw (p, eq-eqb b 35 q)
 
-    pub text-byte : (s : Stage) → r .comment ≡ false → (b ≡ 35 → ⊥) → ((t : List ℕ) → goesOn w h s t ≡ goesOn w h (r .stage) (b ∷ t))
+    pub text-byte : (s : Stage) → r .comment ≡ false → (b ≡ 35 → ⊥) → Follows w h (r .stage) b s
         → (l : List ℕ) → accepts w h (reader false s) l ≡ accepts w h r (b ∷ l)
     unfolding withoutComments
     text-byte s p q k l = rw (p, ne-eqb b 35 q) (k (withoutComments false l))
@@ -45,7 +46,8 @@ module _ (w h : ℕ) where
         → (not (r .comment) && eqb v n && leb 2 k) ≡ accepts w h r []
     ends-number k v n p q = rw (p, q) (sym (number-ends w h k v (r .comment)))
 
-    pub ends-early : (s : Stage) → r .stage ≡ s → ((c : Bool) → goesOn w h s (withoutComments c []) ≡ false) → false ≡ accepts w h r []
+    pub ends-early : (s : Stage) → r .stage ≡ s → ((c : Bool) → goesOn w h s (withoutComments c []) ≡ false)
+        → false ≡ accepts w h r []
     ends-early s p q = rw p (sym (q (r .comment)))
 
   -- the loop over a text's bytes, which are `all` of them accepted or not

@@ -3,15 +3,15 @@
 use mathlib.Core.Path.{_≡_, refl, ap, sym, _∙_}
 use mathlib.Core.Bool.{Bool, true, false, not, _&&_, and-false}
 use mathlib.Core.List.{List, [], _∷_}
-use Prim.Native.Nat.{ℕ, zero, suc, _+_, _-_, _*_, _≤_, _<_}
+use Prim.Native.Nat.{ℕ, zero, suc, _+_, _≤_, _<_}
 use native.Mathlib.Numerals.{add-one}
 use native.Mathlib.Omega.{arith}
 use borrow.Author.Tests.{ltb-true, ltb-false, le-leb}
 use lib.Dec.{eqb, ltb, leb}
 use lib.Seq.{drop-nil}
 use Rattle.lemmas.proofs.Booleans.{by-cases, and-left, and-right}
-use Rattle.pictures.specs.Texts.{isWhite, isDigit, withoutComments, takeWhile, dropWhile, valueFrom, reads}
-use Rattle.pictures.specs.Readers.{wantedOf, laterOf, goesOn}
+use Rattle.pictures.specs.Texts.{isWhite, isDigit, withoutComments, takeWhile, dropWhile, withDigit, valueFrom, reads, numbersOf}
+use Rattle.pictures.specs.Readers.{wantedOf, laterOf, Longer, goesOn, Follows}
 use Rattle.pictures.specs.declared.headers.Stage.{Stage}
 use Rattle.pictures.specs.declared.headers.Stage.the-variants.{Start, White, Number, Broken}
 use Rattle.pictures.proofs.Texts.{digit-not-white, white-not-digit, reads-other, value-past}
@@ -37,48 +37,43 @@ later-none w h (suc (suc k)) l = drop-nil k
 pub before-grey : (v n k : ℕ) → (eqb v n && ltb k 2) ≡ true → k < 2
 before-grey v n k e = ltb-true k 2 (and-right (eqb v n) (ltb k 2) e)
 
--- a number with one more digit, as numbers of 32 bits see it
-abbrev pub Longer : ℕ → ℕ → ℕ → Type 0
-Longer v b r = (n : ℕ) → n < 4294967296 → (l : List ℕ) → eqb (valueFrom r l) n ≡ eqb (valueFrom v (b ∷ l)) n
-
 pub longer-past : (v b : ℕ) → 4294967295 < v → Longer v b v
 longer-past v b h n p l =
-    value-past v n l (omega arith) ∙ sym (value-past (v * 10 + (b - 48)) n l (omega arith))
+    value-past v n l (omega arith) ∙ sym (value-past (withDigit v b) n l (omega arith))
 
-module _ (w h b : ℕ) (t : List ℕ) where
+module _ (w h b : ℕ) where
   -- ---- white space
   module _ (e : isWhite b ≡ true) where
-    pub white-start : goesOn w h (White 0) t ≡ goesOn w h Start (b ∷ t)
+    pub white-start : Follows w h Start b (White 0)
     unfolding goesOn reads dropWhile
-    white-start = rw e
+    white-start t = rw e
 
-    pub white-white : (k : ℕ) → goesOn w h (White k) t ≡ goesOn w h (White k) (b ∷ t)
+    pub white-white : (k : ℕ) → Follows w h (White k) b (White k)
     unfolding goesOn dropWhile
-    white-white k = rw e
+    white-white k t = rw e
 
-    number-over : (k v : ℕ) → goesOn w h (Number k v) (b ∷ t) ≡ (eqb v (wantedOf w h k) && reads (laterOf w h k) (b ∷ t))
+    number-over : (k v : ℕ) (t : List ℕ) → goesOn w h (Number k v) (b ∷ t) ≡ (eqb v (wantedOf w h k) && reads (laterOf w h k) (b ∷ t))
     unfolding goesOn takeWhile dropWhile
-    number-over k v = rw (white-not-digit b e)
+    number-over k v t = rw (white-not-digit b e)
 
-    next-number : (k : ℕ) → k < 2 → goesOn w h (White (suc k)) t ≡ reads (laterOf w h k) (b ∷ t)
+    next-number : (k : ℕ) → k < 2 → (t : List ℕ) → goesOn w h (White (suc k)) t ≡ reads (laterOf w h k) (b ∷ t)
     unfolding goesOn reads dropWhile
-    next-number zero l = rw e
-    next-number (suc zero) l = rw e
-    next-number (suc (suc k)) l = absurd (omega arith)
+    next-number zero l t = rw e
+    next-number (suc zero) l t = rw e
+    next-number (suc (suc k)) l t = absurd (omega arith)
 
-    pub white-number : (k v n : ℕ) → n ≡ wantedOf w h k → (eqb v n && ltb k 2) ≡ true
-        → goesOn w h (White (k + 1)) t ≡ goesOn w h (Number k v) (b ∷ t)
-    white-number k v n q p =
+    pub white-number : (k v n : ℕ) → n ≡ wantedOf w h k → (eqb v n && ltb k 2) ≡ true → Follows w h (Number k v) b (White (k + 1))
+    white-number k v n q p t =
         let same : eqb v (wantedOf w h k) ≡ true = ap (eqb v) (sym q) ∙ and-left (eqb v n) (ltb k 2) p in
         rw add-one
-        (next-number k (before-grey v n k p) ∙ sym (number-over k v ∙ ap (λ (x : Bool). x && reads (laterOf w h k) (b ∷ t)) same))
+        (next-number k (before-grey v n k p) t
+        ∙ sym (number-over k v t ∙ ap (λ (x : Bool). x && reads (laterOf w h k) (b ∷ t)) same))
 
-    pub white-broken : (k v n : ℕ) → n ≡ wantedOf w h k → (eqb v n && ltb k 2) ≡ false
-        → goesOn w h Broken t ≡ goesOn w h (Number k v) (b ∷ t)
+    pub white-broken : (k v n : ℕ) → n ≡ wantedOf w h k → (eqb v n && ltb k 2) ≡ false → Follows w h (Number k v) b Broken
     unfolding goesOn reads
-    white-broken k v n q p =
+    white-broken k v n q p t =
         sym
-        (number-over k v
+        (number-over k v t
         ∙ by-cases (ltb k 2)
         (λ l. ap (λ (x : Bool). x && reads (laterOf w h k) (b ∷ t)) (ap (eqb v) (sym q) ∙ first-false (eqb v n) (ltb k 2) l p))
         (λ l.
@@ -89,42 +84,43 @@ module _ (w h b : ℕ) (t : List ℕ) where
         first-false true y f g = sym f ∙ g
         first-false false y f g = refl
 
-  pub broken-stays : goesOn w h Broken t ≡ goesOn w h Broken (b ∷ t)
+  pub broken-stays : Follows w h Broken b Broken
   unfolding goesOn
-  broken-stays = refl
+  broken-stays t = refl
 
   -- ---- a digit
   module _ (e : isDigit b ≡ true) where
-    pub digit-start : goesOn w h Broken t ≡ goesOn w h Start (b ∷ t)
+    pub digit-start : Follows w h Start b Broken
     unfolding goesOn
-    digit-start = sym (reads-other (w ∷ h ∷ 255 ∷ []) b t (digit-not-white b e))
+    digit-start t = sym (reads-other (numbersOf w h) b t (digit-not-white b e))
 
     module _ (p : w < 4294967296) (q : h < 4294967296) (k : ℕ) where
-      goes-longer : (v u : ℕ) → Longer v b u →
-          (eqb (valueFrom u (takeWhile isDigit t)) (wantedOf w h k) && reads (laterOf w h k) (dropWhile isDigit t))
-          ≡ (eqb (valueFrom v (b ∷ takeWhile isDigit t)) (wantedOf w h k) && reads (laterOf w h k) (dropWhile isDigit t))
-      goes-longer v u f =
-          ap (λ (x : Bool). x && reads (laterOf w h k) (dropWhile isDigit t)) (f (wantedOf w h k) (wanted-below w h k p q) (takeWhile isDigit t))
+      goes-longer : (v u : ℕ) → Longer v b u → (t : List ℕ) → let later = reads (laterOf w h k) (dropWhile isDigit t) in
+          (eqb (valueFrom u (takeWhile isDigit t)) (wantedOf w h k) && later)
+          ≡ (eqb (valueFrom v (b ∷ takeWhile isDigit t)) (wantedOf w h k) && later)
+      goes-longer v u f t =
+          ap (λ (x : Bool). x && reads (laterOf w h k) (dropWhile isDigit t))
+          (f (wantedOf w h k) (wanted-below w h k p q) (takeWhile isDigit t))
 
-      pub digit-white : (u : ℕ) → Longer 0 b u → goesOn w h (Number k u) t ≡ goesOn w h (White k) (b ∷ t)
+      pub digit-white : (u : ℕ) → Longer 0 b u → Follows w h (White k) b (Number k u)
       unfolding goesOn takeWhile dropWhile
-      digit-white u f = rw (digit-not-white b e, e) (goes-longer 0 u f)
+      digit-white u f t = rw (digit-not-white b e, e) (goes-longer 0 u f t)
 
-      pub digit-number : (v u : ℕ) → Longer v b u → goesOn w h (Number k u) t ≡ goesOn w h (Number k v) (b ∷ t)
+      pub digit-number : (v u : ℕ) → Longer v b u → Follows w h (Number k v) b (Number k u)
       unfolding goesOn takeWhile dropWhile
-      digit-number v u f = rw e (goes-longer v u f)
+      digit-number v u f t = rw e (goes-longer v u f t)
 
   -- ---- another byte
-  other : (s : Stage) → isWhite b ≡ false → isDigit b ≡ false → goesOn w h s (b ∷ t) ≡ false
+  other : (s : Stage) → isWhite b ≡ false → isDigit b ≡ false → (t : List ℕ) → goesOn w h s (b ∷ t) ≡ false
   unfolding goesOn takeWhile dropWhile
-  other Start f g = reads-other (w ∷ h ∷ 255 ∷ []) b t f
-  other (White k) f g = rw (f, g)
-  other (Number k v) f g = rw (g, reads-other (laterOf w h k) b t f) (and-false (eqb v (wantedOf w h k)))
-  other Broken f g = refl
+  other Start f g t = reads-other (numbersOf w h) b t f
+  other (White k) f g t = rw (f, g)
+  other (Number k v) f g t = rw (g, reads-other (laterOf w h k) b t f) (and-false (eqb v (wantedOf w h k)))
+  other Broken f g t = refl
 
-  pub other-broken : (s : Stage) → isWhite b ≡ false → isDigit b ≡ false → goesOn w h Broken t ≡ goesOn w h s (b ∷ t)
+  pub other-broken : (s : Stage) → isWhite b ≡ false → isDigit b ≡ false → Follows w h s b Broken
   unfolding goesOn
-  other-broken s f g = sym (other s f g)
+  other-broken s f g t = sym (other s f g t)
 
 -- ---- the text's end, inside a comment or not
 pub start-ends : (w h : ℕ) (c : Bool) → goesOn w h Start (withoutComments c []) ≡ false
@@ -144,9 +140,10 @@ all-read w h (suc zero) = refl
 all-read w h (suc (suc k)) =
     ap (λ (ns : List ℕ). reads ns []) (later-none w h (suc (suc k)) (omega arith)) ∙ sym (le-leb 2 (suc (suc k)) (omega arith))
 
-pub number-ends : (w h k v : ℕ) (c : Bool) → goesOn w h (Number k v) (withoutComments c []) ≡ (not c && eqb v (wantedOf w h k) && leb 2 k)
+pub number-ends : (w h k v : ℕ) (c : Bool)
+    → goesOn w h (Number k v) (withoutComments c []) ≡ (not c && eqb v (wantedOf w h k) && leb 2 k)
 unfolding goesOn withoutComments takeWhile dropWhile
-number-ends w h k v true = other w h 35 [] (Number k v) refl refl
+number-ends w h k v true = other w h 35 (Number k v) refl refl []
 number-ends w h k v false = ap (λ (x : Bool). eqb v (wantedOf w h k) && x) (all-read w h k)
 
 pub broken-ends : (w h : ℕ) (c : Bool) → goesOn w h Broken (withoutComments c []) ≡ false

@@ -1,14 +1,14 @@
 -- White space, digits and other bytes at the front of a text; digits that make a number.
 -- Assumes nothing.
-use mathlib.Core.Path.{_≡_, refl, ap, sym, _∙_}
-use mathlib.Core.Bool.{Bool, true, false, _&&_, and-false, false≢true}
+use mathlib.Core.Path.{_≡_, refl, sym, _∙_}
+use mathlib.Core.Bool.{true, false, false≢true}
 use mathlib.Core.List.{List, [], _∷_}
-use Prim.Native.Nat.{ℕ, _+_, _-_, _*_, _≤_, _<_}
+use Prim.Native.Nat.{ℕ, _≤_, _<_}
 use native.Mathlib.Omega.{arith}
 use borrow.Author.Tests.{ltb-true, ltb-false, leb-true, lt-leb, ne-eqb}
 use lib.Dec.{eqb, leb, ltb}
 use Rattle.lemmas.proofs.Booleans.{by-cases, and-left}
-use Rattle.pictures.specs.Texts.{isWhite, isDigit, dropWhile, valueFrom, reads}
+use Rattle.pictures.specs.Texts.{isWhite, isDigit, withDigit, valueFrom, reads}
 
 not-white : (b : ℕ) → 48 ≤ b → isWhite b ≡ false
 not-white b h =
@@ -36,7 +36,7 @@ reads-other (n ∷ ns) b t e = rw e
 -- a number past n stays past it
 value-least : (l : List ℕ) (v : ℕ) → v ≤ valueFrom v l
 value-least [] v = omega arith
-value-least (b ∷ l) v = omega (arith, value-least l (v * 10 + (b - 48)))
+value-least (b ∷ l) v = omega (arith, value-least l (withDigit v b))
 
 pub value-past : (v n : ℕ) (l : List ℕ) → n < v → eqb (valueFrom v l) n ≡ false
 value-past v n l h = ne-eqb (valueFrom v l) n (λ e. omega (arith, value-least l v))

@@ -47,17 +47,23 @@ isEmpty [] = true
 isEmpty (b ∷ l) = false
 
 -- The number that digits make, after those that made v. "Leading zeros pass."
+abbrev pub withDigit : ℕ → ℕ → ℕ
+withDigit v b = v * 10 + (b - 48)
+
 abbrev pub valueFrom : ℕ → List ℕ → ℕ
-valueFrom v digits = foldl (λ n b. n * 10 + (b - 48)) v digits
+valueFrom v digits = foldl withDigit v digits
 
 -- A text that is these numbers and nothing else, each in digits after white space, "one or more".
 unfoldable pub reads : List ℕ → List ℕ → Bool
 reads [] text = isEmpty text
 reads (n ∷ ns) text =
     let number = dropWhile isWhite text in
-    startsWith isWhite text && startsWith isDigit number && eqb (valueFrom 0 (takeWhile isDigit number)) n
-    && reads ns (dropWhile isDigit number)
+    startsWith isWhite text && startsWith isDigit number
+    && (eqb (valueFrom 0 (takeWhile isDigit number)) n && reads ns (dropWhile isDigit number))
 
 -- "with the board's own size and greatest grey 255"
+abbrev pub numbersOf : ℕ → ℕ → List ℕ
+numbersOf width height = width ∷ height ∷ 255 ∷ []
+
 abbrev pub saysSize : ℕ → ℕ → List ℕ → Bool
-saysSize width height text = reads (width ∷ height ∷ 255 ∷ []) (withoutComments false text)
+saysSize width height text = reads (numbersOf width height) (withoutComments false text)

@@ -3,11 +3,10 @@ ghost use mathlib.Core.Path.{_≡_};
 ghost use mathlib.Core.Bool.{true};
 ghost use mathlib.Core.List.{List, [], _∷_};
 ghost use Prim.Native.Nat.{ℕ, _≤_, _<_};
-ghost use lib.Dec.{eqb};
 ghost use lib.ListN.{length};
 ghost use lib.Seq.{slice};
-ghost use Rattle.pictures.specs.Texts.{isWhite, isDigit, endsComment, valueFrom, saysSize};
-ghost use Rattle.pictures.specs.Readers.{wantedOf, goesOn, accepts};
+ghost use Rattle.pictures.specs.Texts.{isWhite, isDigit, endsComment, saysSize};
+ghost use Rattle.pictures.specs.Readers.{wantedOf, Longer, Follows, accepts};
 
 // How far the numbers of a header are read, comments left out.
 pub(crate) enum Stage {
@@ -20,7 +19,7 @@ pub(crate) enum Stage {
     Broken,
 }
 
-// The same with comments.
+// The same, and whether a comment is open.
 pub(crate) struct Reader {
     pub comment: bool,
     pub stage: Stage,
@@ -57,10 +56,10 @@ fn wanted(width: u32, height: u32, k: u32) -> u64
     255
 }
 
-// A number with one more digit, for comparison with numbers of 32 bits: a number past these stays, so that none wraps.
+// A number with one more digit. One past 32 bits stays, so that none wraps.
 fn longer(v: u64, b: u8) -> u64
     requires { ⌜ isDigit b ≡ true ⌝ }
-    ensures { λ r. ⌜ ((n : ℕ) → n < 4294967296 → (l : List ℕ) → eqb (valueFrom r l) n ≡ eqb (valueFrom v (b ∷ l)) n) ⌝ }
+    ensures { λ r. ⌜ Longer v b r ⌝ }
 {
     if 4294967295 < v {
         return v;
@@ -71,7 +70,7 @@ fn longer(v: u64, b: u8) -> u64
 impl Stage {
     // The stage after white space.
     fn white(self, width: u32, height: u32) -> Stage
-        ensures { λ r. ⌜ ((b : ℕ) → isWhite b ≡ true → (t : List ℕ) → goesOn width height r t ≡ goesOn width height self (b ∷ t)) ⌝ }
+        ensures { λ r. ⌜ ((b : ℕ) → isWhite b ≡ true → Follows width height self b r) ⌝ }
     {
         match self {
             Stage::Start => Stage::White(0),
@@ -92,7 +91,7 @@ impl Stage {
     // The stage after a digit.
     fn digit(self, b: u8) -> Stage
         requires { ⌜ isDigit b ≡ true ⌝ }
-        ensures { λ r. ⌜ ((width height : ℕ) → width < 4294967296 → height < 4294967296 → (t : List ℕ) → goesOn width height r t ≡ goesOn width height self (b ∷ t)) ⌝ }
+        ensures { λ r. ⌜ ((width height : ℕ) → width < 4294967296 → height < 4294967296 → Follows width height self b r) ⌝ }
     {
         match self {
             Stage::Start => Stage::Broken,

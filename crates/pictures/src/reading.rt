@@ -21,7 +21,7 @@ pub(crate) enum Raster {
     Nowhere,
 }
 
-// The pixels are the last width x height bytes, if these make a picture.
+// In a picture of this size they are its last width x height bytes.
 fn raster_start(picture: &[u8], width: u32, height: u32) -> Raster
     ensures { λ r. ⌜ r ≡ rasterOf width height (now (picture .entry)) ⌝ }
 {

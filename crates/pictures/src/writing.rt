@@ -19,12 +19,11 @@ pub enum WriteStatus {
 }
 
 // Bytes into the output from a place on; the place after them.
-fn put_bytes(output: &mut [u8], at: usize, bytes: &[u8]) -> usize
-    requires { ⌜ at + length (now bytes) ≤ length (now output) ⌝ }
-    ensures { λ r. ⌜ lent r (now (output .exit)) ≡ putAt (now (output .entry)) at (now (bytes .entry)) ⌝ }
+fn put_bytes(output: &mut [u8], at: usize, source: &[u8]) -> usize
+    requires { ⌜ at + length (now source) ≤ length (now output) ⌝ }
+    ensures { λ r. ⌜ lent r (now (output .exit)) ≡ putAt (now (output .entry)) at (now (source .entry)) ⌝ }
 {
-    let n = bytes::copy(bytes, &mut output[at..]);
-    at + n
+    at + bytes::copy(source, &mut output[at..])
 }
 
 // A number in decimal, unpadded, from a place on; the place after it.

@@ -4,7 +4,6 @@ use mathlib.Core.Path.{_≡_}
 use Prim.Native.Nat.{_-_, _≤_}
 use native.Mathlib.Omega.{arith}
 use borrow.Author.Needs.{needs}
-use lib.ListN.{length}
 use lib.Seq.{slice}
 use Rattle.pictures.specs.Texts.{saysSize}
 use Rattle.pictures.specs.Readers.{accepts}
@@ -13,7 +12,8 @@ use Rattle.pictures.proofs.headers.says_size.Statement.{statement}
 use Rattle.pictures.proofs.headers.says_size.Tie as tie
 
 abbrev Inv-loop : tie.InvT-loop
-Inv-loop picture end width height reader₀ k₀ reader k = (k ≤ end) × (end ≤ length picture) × (accepts width height reader (slice k end picture) ≡ saysSize width height (slice 2 end picture))
+Inv-loop picture end width height reader₀ k₀ reader k =
+    (k ≤ end) × (accepts width height reader (slice k end picture) ≡ saysSize width height (slice 2 end picture))
 
 abbrev μ-loop : tie.MeasureT-loop
 μ-loop picture end width height reader₀ k₀ reader k = end - k
@@ -22,7 +22,7 @@ start-requires : tie.Need-start-requires Inv-loop μ-loop
 start-requires c κs = search needs
 
 loop-holds : tie.Need-loop-holds Inv-loop μ-loop
-loop-holds c = (omega arith, omega arith, c .start .ensures _ _ _)
+loop-holds c = (omega arith, c .start .ensures _ _ _)
 
 shared-slice-read-after : tie.Need-shared-slice-read-after Inv-loop μ-loop
 shared-slice-read-after c = omega arith
@@ -41,8 +41,7 @@ loop-again c =
     let at = c .before .before .before in
     let s = at .before .before .before .args in (
       omega arith,
-      omega arith,
-      accepts-next _ _ (s .picture .now) (s .end) _ _ _ (at .loop .k) (omega arith) (omega arith) (c .after .ensures) (at .loop .inv .2),
+      accepts-next _ _ (s .picture .now) (s .end) _ _ _ (at .loop .k) (omega arith) (omega arith) (c .after .ensures) (at .loop .inv .1),
     )
 
 at-end-requires : tie.Need-at-end-requires Inv-loop μ-loop
@@ -52,7 +51,7 @@ returns : tie.Need-returns Inv-loop μ-loop
 returns c =
     let at = c .before .before in
     let s = at .before .before .before .args in
-    accepts-all _ _ (s .picture .now) (s .end) _ _ (at .loop .k) _ (omega arith) (omega arith) (at .loop .inv .2) (c .at-end .ensures)
+    accepts-all _ _ (s .picture .now) (s .end) _ _ (at .loop .k) _ (omega arith) (omega arith) (at .loop .inv .1) (c .at-end .ensures)
 
 pub says-size-spec : {M : Type 1} → statement M
 says-size-spec =

@@ -1,5 +1,5 @@
--- A refusal is the ground of its test (`read-wrong-size`, `read-refused`); else the pixels from their start on (`found`) are as many as
--- the buffer has, and are copied over it (`read-done`).
+-- A refusal is the ground of its test (`read-wrong-size`, `read-refused`); else the pixels from the start that was found are as
+-- many as the buffer has, and are copied over it (`read-done`).
 use mathlib.Core.Path.{_≡_, sym, _∙_}
 use native.Mathlib.Omega.{arith}
 use borrow.Author.Needs.{needs}
@@ -40,7 +40,8 @@ copy-requires c κs =
     let s = c .before .before .before in
     let o = s .before .before .before in
     let a = o .before .before .before .before .args in
-    rw (part-is (a .picture .now) (s .start .given .0 .0)) (omega (arith, raster-fits _ _ _ _ (found s) .1, o .before .area .ensures, o .if1 .left))
+    rw (part-is (a .picture .now) (s .start .given .0 .0))
+    (omega (arith, raster-fits _ _ _ _ (found s) .1, o .before .area .ensures, o .if1 .left))
 
 enum-told : tie.Need-enum-told
 enum-told c = search needs
@@ -58,7 +59,8 @@ returns-2 c =
 returns-3 : tie.Need-returns-3
 returns-3 c =
     let r = c .before .before in
-    read-refused _ _ _ _ _ (r .before .before .area .ensures) (r .before .if1 .left) (sym (c .enum-told .given .1) ∙ r .raster-start .ensures)
+    read-refused _ _ _ _ _ (r .before .before .area .ensures) (r .before .if1 .left)
+    (sym (c .enum-told .given .1) ∙ r .raster-start .ensures)
 
 pub read-picture-spec : {M : Type 1} → statement M
 read-picture-spec =

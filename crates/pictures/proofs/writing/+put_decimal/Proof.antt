@@ -1,12 +1,10 @@
 -- The last digit goes behind those of the tenth (`put-last`, `put-tenth`), and the output has room for it; each call is of a smaller
 -- number.
-use mathlib.Core.Path.{_≡_, _∙_}
-use Prim.Native.Nat.{ℕ, _+_, _/_, _%_, _<_}
+use Prim.Native.Nat.{ℕ, _+_, _<_}
 use native.Mathlib.Omega.{arith}
 use lib.ListN.{length, length-set}
 use borrow.Fn.Kinds.{In}
 use borrow.Fn.PlainCycle.{Measures, is, falls, and}
-use Rattle.pictures.specs.Pictures.{decimalOf}
 use Rattle.pictures.proofs.Decimals.{length-last, length-tenth}
 use Rattle.pictures.proofs.Puts.{place, put-last, put-tenth}
 use Rattle.pictures.proofs.writing.put_decimal.Reads as reads
@@ -56,7 +54,8 @@ last-fits : (t : ℕ) (c : lts.After-slice-known2 (below t, reads.Post) (at t) r
     → c .before .before .put-decimal .result < length (c .before .before .put-decimal .last .0)
 last-fits t c =
     let p = c .before .before .put-decimal in
-    omega (arith, length-tenth (c .before .before .before .before .before .before .args .n) (c .before .before .before .before .if1 .left), p .kept .0, place (p .ensures))
+    let o = c .before .before .before .before in
+    omega (arith, length-tenth (o .before .before .args .n) (o .if1 .left), p .kept .0, place (p .ensures))
 
 slice-write-output-2 : (t : ℕ) → lts.Need-slice-write-output-2 (below t, reads.Post) (at t) reads.Post
 slice-write-output-2 t c = last-fits t c

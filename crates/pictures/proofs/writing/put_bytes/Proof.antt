@@ -26,7 +26,7 @@ returns : tie.Need-returns
 returns c =
     let s = c .before .before .before .before .before .before in
     let copied = c .before .before .copy .ensures in
-    put-copied (s .args .output .now) (s .args .bytes .now) _ (s .args .at) _ (s .pre) (copied .0) (copied .1)
+    put-copied (s .args .output .now) (s .args .source .now) _ (s .args .at) _ (s .pre) (copied .0) (copied .1)
 
 pub put-bytes-spec : {M : Type 1} → statement M
 put-bytes-spec =

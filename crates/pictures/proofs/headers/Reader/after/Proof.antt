@@ -26,7 +26,7 @@ returns-3 : tie.Need-returns-3
 returns-3 c =
     let o = c .before .before .before in
     text-byte _ _ _ _ _ (o .before .if1 .left) (o .if2 .left)
-    (λ t. c .white .ensures _ (sym (c .before .before .is-white .ensures) ∙ c .before .if3 .taken) t)
+    (c .white .ensures _ (sym (c .before .before .is-white .ensures) ∙ c .before .if3 .taken))
 
 is-digit-requires : tie.Need-is-digit-requires
 is-digit-requires c κs = search needs
@@ -37,14 +37,14 @@ digit-requires c κs = sym (c .before .is-digit .ensures) ∙ c .if4 .taken
 returns-4 : tie.Need-returns-4
 returns-4 c =
     let o = c .before .before .before .before .before in
-    text-byte _ _ _ _ _ (o .before .if1 .left) (o .if2 .left) (λ t. c .digit .ensures _ _ (search needs) (search needs) t)
+    text-byte _ _ _ _ _ (o .before .if1 .left) (o .if2 .left) (c .digit .ensures _ _ (search needs) (search needs))
 
 returns-5 : tie.Need-returns-5
 returns-5 c =
     let d = c .before in
     let o = d .before .before .before in
     text-byte _ _ _ _ _ (o .before .if1 .left) (o .if2 .left)
-    (λ t. other-broken _ _ _ t _ (sym (d .before .before .is-white .ensures) ∙ d .before .if3 .left) (sym (d .is-digit .ensures) ∙ c .if4 .left))
+    (other-broken _ _ _ _ (sym (d .before .before .is-white .ensures) ∙ d .before .if3 .left) (sym (d .is-digit .ensures) ∙ c .if4 .left))
 
 pub after-spec : {M : Type 1} → statement M
 after-spec =

@@ -23,16 +23,20 @@ enum-told-2 : tie.Need-enum-told-2
 enum-told-2 c = search needs
 
 returns : tie.Need-returns
-returns c = λ w h p q t. rw (c .enum-told .given .1) (digit-start w h _ t (c .before .before .pre))
+returns c = λ w h p q. rw (c .enum-told .given .1) (digit-start w h _ (c .before .before .pre))
 
 returns-2 : tie.Need-returns-2
-returns-2 c = λ w h p q t. rw (c .before .before .self .given .1) (digit-white w h _ t (c .before .before .before .before .pre) p q _ _ (c .longer .ensures))
+returns-2 c =
+    λ w h p q. rw (c .before .before .self .given .1)
+    (digit-white w h _ (c .before .before .before .before .pre) p q _ _ (c .longer .ensures))
 
 returns-3 : tie.Need-returns-3
-returns-3 c = λ w h p q t. rw (c .before .before .self2 .given .1) (digit-number w h _ t (c .before .before .before .before .pre) p q _ _ _ (c .longer2 .ensures))
+returns-3 c =
+    λ w h p q. rw (c .before .before .self2 .given .1)
+    (digit-number w h _ (c .before .before .before .before .pre) p q _ _ _ (c .longer2 .ensures))
 
 returns-4 : tie.Need-returns-4
-returns-4 c = λ w h p q t. rw (c .enum-told2 .given .1) (broken-stays w h _ t)
+returns-4 c = λ w h p q. rw (c .enum-told2 .given .1) (broken-stays w h _)
 
 pub digit-spec : {M : Type 1} → statement M
 digit-spec =

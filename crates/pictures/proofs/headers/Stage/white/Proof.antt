@@ -27,19 +27,23 @@ enum-told-2 : tie.Need-enum-told-2
 enum-told-2 c = search needs
 
 returns : tie.Need-returns
-returns c = λ b e t. rw (c .enum-told .given .1) (white-start _ _ b t e)
+returns c = λ b e. rw (c .enum-told .given .1) (white-start _ _ b e)
 
 returns-2 : tie.Need-returns-2
-returns-2 c = λ b e t. rw (c .before .self .given .1) (white-white _ _ b t e _)
+returns-2 c = λ b e. rw (c .before .self .given .1) (white-white _ _ b e _)
 
 returns-3 : tie.Need-returns-3
-returns-3 c = λ b e t. rw (c .before .before .before .self2 .given .1) (white-number _ _ b t e _ _ _ (c .before .wanted .ensures) (c .if1 .taken))
+returns-3 c =
+    λ b e. rw (c .before .before .before .self2 .given .1)
+    (white-number _ _ b e _ _ _ (c .before .wanted .ensures) (c .if1 .taken))
 
 returns-4 : tie.Need-returns-4
-returns-4 c = λ b e t. rw (c .before .before .before .self2 .given .1) (white-broken _ _ b t e _ _ _ (c .before .wanted .ensures) (c .if1 .left))
+returns-4 c =
+    λ b e. rw (c .before .before .before .self2 .given .1)
+    (white-broken _ _ b e _ _ _ (c .before .wanted .ensures) (c .if1 .left))
 
 returns-5 : tie.Need-returns-5
-returns-5 c = λ b e t. rw (c .enum-told2 .given .1) (broken-stays _ _ b t)
+returns-5 c = λ b e. rw (c .enum-told2 .given .1) (broken-stays _ _ b)
 
 pub white-spec : {M : Type 1} → statement M
 white-spec =
