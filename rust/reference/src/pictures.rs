@@ -42,13 +42,14 @@ pub fn import(record: &mut Record, number: u64, picture: &[u8], buffer: &mut [u8
     if record.malformed() {
         return Report::plain(1);
     }
+    let raster = after_header(picture, record.width, record.height);
     if number > 1 || !is_buffer(record, buffer) {
         return Report::plain(2);
     }
     if record.active_taken == 1 || record.pending_taken == 1 {
         return Report::plain(7);
     }
-    match after_header(picture, record.width, record.height) {
+    match raster {
         Some(raster) if raster.len() == buffer.len() => {
             put_bytes(buffer, 0, raster);
             Report::plain(0)
