@@ -2,6 +2,7 @@
 
 use crate::call::Call;
 use crate::feeds::{self, Line};
+use crate::headers;
 use crate::lists::{Size, list};
 use crate::pictures;
 use crate::random::Random;
@@ -142,7 +143,7 @@ fn import(random: &mut Random, side: &Reference) -> Call {
     let raster = random.bytes(pixels);
     Call::Import {
         number: pictures::number(random),
-        picture: pictures::made(random, size, &raster).bytes,
+        picture: headers::made(random, size, &raster).bytes,
     }
 }
 

@@ -9,6 +9,7 @@ pub mod choose;
 pub mod compared;
 pub mod difference;
 pub mod feeds;
+pub mod headers;
 pub mod lists;
 pub mod packing;
 pub mod paper;

@@ -4,6 +4,7 @@
 
 use crate::choose::extreme;
 use crate::compared::Compared;
+use crate::headers::{self, KINDS};
 use crate::random::Random;
 use crate::sides::{engine_report, export_report};
 use pramolyt::Board;
@@ -25,218 +26,9 @@ const PLACES: usize = 11;
 /// Bytes past the lent output, which no export may touch.
 const GUARD: usize = 16;
 
-/// The white space of a header.
-const WHITE: &[u8] = b" \t\n\r";
-
-/// What is odd about a picture, and the answers that an idle board must have given to such ones.
-const KINDS: [(&str, &[usize]); 19] = [
-    ("as exported", &[0]),
-    ("with more white space", &[0]),
-    ("with leading zeros", &[0]),
-    ("with hundreds of leading zeros", &[0]),
-    ("with comments", &[0]),
-    ("with all of these", &[0]),
-    ("with a comment for white space", &[11]),
-    ("with a comment that does not end", &[11]),
-    ("with two white spaces after the 255", &[11]),
-    ("with white space or a # for its first pixels", &[0]),
-    ("with a vertical tab or a form feed", &[11]),
-    ("with a number past 32 bits", &[11]),
-    ("with a number past 64 bits", &[11]),
-    ("with another number", &[11]),
-    ("of another kind", &[11]),
-    ("cut short", &[11]),
-    ("with bytes after it", &[11]),
-    ("with a byte of an export's header changed", &[0, 11]),
-    ("with bytes of its header changed", &[0, 11]),
-];
-
-/// A picture made for an import.
-pub struct Made {
-    /// Its bytes.
-    pub bytes: Vec<u8>,
-    kind: usize,
-    /// The place of the byte that was changed in an export's header.
-    changed: Option<usize>,
-}
-
-/// The parts of a header: the white space follows `P5` and each of the numbers.
-struct Header {
-    magic: Vec<u8>,
-    white: [Vec<u8>; 4],
-    numbers: [Vec<u8>; 3],
-}
-
-impl Header {
-    /// As an export has it.
-    fn new(size: (u64, u64)) -> Header {
-        Header {
-            magic: b"P5".to_vec(),
-            white: [b"\n", b" ", b"\n", b"\n"].map(|byte| byte.to_vec()),
-            numbers: [size.0, size.1, 255].map(|number| number.to_string().into_bytes()),
-        }
-    }
-
-    fn bytes(&self) -> Vec<u8> {
-        let mut bytes = [&self.magic[..], &self.white[0]].concat();
-        for (number, white) in self.numbers.iter().zip(&self.white[1..]) {
-            bytes.extend(number);
-            bytes.extend(white);
-        }
-        bytes
-    }
-
-    fn more_white(&mut self, random: &mut Random) {
-        for white in &mut self.white[..3] {
-            *white = (0..random.between(1, 4))
-                .map(|_| random.pick(WHITE))
-                .collect();
-        }
-        self.white[3] = vec![random.pick(WHITE)];
-    }
-
-    fn zeros(&mut self, random: &mut Random, most: u64) {
-        let which = random.below(3) as usize;
-        for (k, number) in self.numbers.iter_mut().enumerate() {
-            if k == which || random.one_in(2) {
-                let zeros = 1 + random.below(most) as usize;
-                number.splice(0..0, vec![b'0'; zeros]);
-            }
-        }
-    }
-}
-
-/// A comment with its end.
-fn comment(random: &mut Random) -> Vec<u8> {
-    let mut bytes = vec![b'#'];
-    for _ in 0..random.below(5) {
-        bytes.push(random.pick(b"# \t05255Pquay\x0B\x00\xFF"));
-    }
-    bytes.push(random.pick(b"\n\r"));
-    bytes
-}
-
-/// Puts comments into a header, anywhere between `P5` and its last white space.
-fn comments(random: &mut Random, header: &mut Vec<u8>) {
-    for _ in 0..random.between(1, 4) {
-        let at = random.between(2, header.len() as i64 - 1) as usize;
-        header.splice(at..at, comment(random));
-    }
-}
-
-/// A picture for a board of this size, with these pixels, or one that is not.
-pub fn made(random: &mut Random, size: (u64, u64), pixels: &[u8]) -> Made {
-    let weights = [4, 2, 2, 1, 6, 8, 3, 3, 2, 3, 2, 2, 2, 3, 1, 3, 3, 8, 12];
-    let kind = random.weighted(&weights);
-    let mut header = Header::new(size);
-    let mut raster = pixels.to_vec();
-    let mut changed = None;
-    let which = random.below(3) as usize;
-    match kind {
-        1 => header.more_white(random),
-        2 => header.zeros(random, 4),
-        3 => header.zeros(random, 400),
-        6 => header.white[random.pick(&[0, 1, 2, 3])] = comment(random),
-        8 => header.white[3].push(random.pick(WHITE)),
-        9 => {
-            for pixel in raster.iter_mut().take(3) {
-                *pixel = random.pick(b" \t\n\r#");
-            }
-        }
-        10 => header.white[random.pick(&[0, 1, 2, 3])] = vec![random.pick(b"\x0B\x0C")],
-        11 => add(random, &mut header.numbers[which], 1 << 32),
-        12 => add(random, &mut header.numbers[which], 1 << 64),
-        13 => other_number(random, &mut header.numbers),
-        14 => {
-            let magics: [&[u8]; 8] = [b"P2", b"P4", b"P6", b"P7", b"p5", b"5P", b" P5", b"P 5"];
-            header.magic = random.pick(&magics).to_vec();
-        }
-        5 | 18 => {
-            header.more_white(random);
-            header.zeros(random, 3);
-        }
-        _ => {}
-    }
-    let mut text = header.bytes();
-    match kind {
-        4 | 5 => comments(random, &mut text),
-        7 => {
-            let at = random.between(2, text.len() as i64 - 1) as usize;
-            text.insert(at, b'#');
-            let rest = text[at..].iter_mut().chain(&mut raster);
-            rest.filter(|byte| matches!(**byte, b'\n' | b'\r'))
-                .for_each(|byte| *byte = b' ');
-        }
-        17 => {
-            let at = random.below(text.len() as u64) as usize;
-            text[at] = telling(random);
-            changed = Some(at);
-        }
-        18 => {
-            comments(random, &mut text);
-            (0..random.between(1, 2)).for_each(|_| change(random, &mut text));
-        }
-        _ => {}
-    }
-    let mut bytes = [text, raster].concat();
-    match kind {
-        15 => bytes.truncate(random.below(bytes.len() as u64) as usize),
-        16 => {
-            let more = 1 + random.below(20) as usize;
-            bytes.extend(random.bytes(more));
-        }
-        _ => {}
-    }
-    Made {
-        bytes,
-        kind,
-        changed,
-    }
-}
-
-/// A byte that means something in a header, or any.
-fn telling(random: &mut Random) -> u8 {
-    match random.below(4) {
-        0 => random.pick(WHITE),
-        1 => random.pick(b"#0123456789P\x0B\x0C"),
-        _ => random.word() as u8,
-    }
-}
-
-/// Changes, takes out or puts in one byte of a header.
-fn change(random: &mut Random, text: &mut Vec<u8>) {
-    let at = random.below(text.len() as u64) as usize;
-    match random.below(3) {
-        0 => text[at] = telling(random),
-        1 => drop(text.remove(at)),
-        _ => text.insert(at, telling(random)),
-    }
-}
-
-/// Adds a few times so much to a number, which is then the same to who drops the bits above.
-fn add(random: &mut Random, number: &mut Vec<u8>, much: u128) {
-    let digits = std::str::from_utf8(number).expect("digits");
-    let old: u128 = digits.parse().expect("a number");
-    let times = u128::from(1 + random.below(9));
-    *number = (old + times * much).to_string().into_bytes();
-}
-
-/// Makes one of the numbers another.
-fn other_number(random: &mut Random, numbers: &mut [Vec<u8>; 3]) {
-    let which = random.below(3) as usize;
-    match random.below(6) {
-        0 if numbers[0] != numbers[1] => numbers.swap(0, 1),
-        1 => numbers[which].push(b'0'),
-        2 => numbers[which].clear(),
-        3 => numbers[2] = random.pick(&["1", "15", "254", "256", "65535"]).into(),
-        4 => numbers[which].splice(0..0, *b"1").for_each(drop),
-        _ => add(random, &mut numbers[which], 1),
-    }
-}
-
 /// Bytes of output: what the picture needs, one less, more, or any other number.
 pub fn room(random: &mut Random, size: (u64, u64), pixels: usize) -> usize {
-    let exact = Header::new(size).bytes().len() + pixels;
+    let exact = headers::exported(size).len() + pixels;
     match random.weighted(&[6, 4, 4, 1, 1]) {
         0 => exact,
         1 => exact - 1,
@@ -324,7 +116,7 @@ impl Compared for Pictures {
         checks.push(("an output that fits exactly".into(), self.exact > 0));
         checks.push((one_less, self.one_less > 0));
         checks.push(("an export while a slot is taken".into(), self.busy > 0));
-        for ((name, answers), counts) in KINDS.iter().zip(&self.kinds) {
+        for ((_, name, _, answers), counts) in KINDS.iter().zip(&self.kinds) {
             for &number in *answers {
                 let name = format!("a picture {name} answers {number}");
                 checks.push((name, counts[usize::from(number == 11)] > 0));
@@ -358,7 +150,7 @@ impl Compared for Pictures {
         );
         println!("exports by digits of width and height {:?}", self.digits);
         println!("imports to an idle board, done and refused with 11, each");
-        for ((name, _), counts) in KINDS.iter().zip(&self.kinds) {
+        for ((_, name, ..), counts) in KINDS.iter().zip(&self.kinds) {
             println!("  {name} {counts:?}");
         }
         println!("bytes changed in an export's header {:?}", self.places);
@@ -480,7 +272,7 @@ fn compare_import(
     counts: &mut Pictures,
 ) -> Result<(), String> {
     let record = record(random, size);
-    let made = made(random, size, pixels);
+    let made = headers::made(random, size, pixels);
     let number = number(random);
     let lent = random.bytes(pixels.len());
     let lent = buffer(random, &lent);
@@ -560,8 +352,9 @@ fn count_size(sizes: &mut [[u64; SMALL]; SMALL], size: (u64, u64)) {
 
 #[cfg(test)]
 mod tests {
-    use super::{Header, Pictures, play};
+    use super::{Pictures, play};
     use crate::compared::Compared;
+    use crate::headers::exported;
     use pramolyt::Board;
     use reference::{import, make};
 
@@ -582,7 +375,7 @@ mod tests {
         const PIXELS: [u8; 32] = *b"\x80\n 16 2\n255\r#\n\t0123456789P5\x0B\x0C#\x00\xFF";
         let (_, mut board) = Board::make(16, 2, 1);
         let (_, mut record) = make(16, 2, 1);
-        let header = Header::new((16, 2)).bytes();
+        let header = exported((16, 2));
         let mut read = 0;
         for at in 0..=header.len() {
             for byte in 0..=255 {

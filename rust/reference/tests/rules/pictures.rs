@@ -191,7 +191,7 @@ fn white_space_is_one_or_more() {
             "P5\n16 2255\n",
             "P5\x0B16 2\n255\n",
             "P5\n16\x0C2\n255\n",
-            "P5\n16\02\n255\n",
+            "P5\n16\x002\n255\n",
             "P5\n16\u{a0}2\n255\n",
         ],
     );
