@@ -399,3 +399,74 @@ fn an_imports_grounds() {
         assert!(answer == 0 || buffer == vec![0xA5; size]);
     }
 }
+
+/// The same rules read another way: the pixels are the last bytes, "that one" white space is
+/// the byte before them, and comments are taken out of what stands between P5 and it first.
+fn is_picture(bytes: &[u8], size: [u64; 2], area: usize) -> bool {
+    let white = |byte: &u8| b" \t\n\r".contains(byte);
+    let Some((header, [last])) = bytes
+        .len()
+        .checked_sub(area)
+        .and_then(|end| bytes[..end].split_last_chunk::<1>())
+    else {
+        return false;
+    };
+    let mut text = Vec::new();
+    let mut in_comment = false;
+    for &byte in header.get(2..).unwrap_or_default() {
+        if !in_comment && byte != b'#' {
+            text.push(byte);
+        }
+        in_comment = byte == b'#' || in_comment && byte != b'\n' && byte != b'\r';
+    }
+    let legal = text.iter().all(|byte| white(byte) || byte.is_ascii_digit());
+    let begins = text.first().is_some_and(white);
+    let ends = text.last().is_some_and(u8::is_ascii_digit);
+    let words = text.split(white).filter(|word| !word.is_empty());
+    let numbers: Vec<Option<u64>> = words
+        .map(|word| std::str::from_utf8(word).unwrap().parse().ok())
+        .collect();
+    header.starts_with(b"P5")
+        && white(last)
+        && !in_comment
+        && legal
+        && begins
+        && ends
+        && numbers == [size[0], size[1], 255].map(Some)
+}
+
+/// Both readings agree on headers in which up to three bytes are changed, taken out or put
+/// in, before pixels that mean something in a header.
+#[test]
+fn a_second_reading_agrees() {
+    const BYTES: &[u8] = b" \t\n\r##00125P\x0Bx";
+    const PIXELS: &[u8; AREA] = b"\n #\r255\n1#x\n6 2\n255\nP5 16 2 255#";
+    let mut state = 0x1234_5678_9ABC_DEF1_u64;
+    let mut below = |limit: usize| {
+        state ^= state << 13;
+        state ^= state >> 7;
+        state ^= state << 17;
+        (state >> 11) as usize % limit
+    };
+    let headers = [
+        HEADER,
+        "P5#c\n 1#\r6\t#\n2 #a#b\n2#\n55#\n\r",
+        "P5  016\r\n02\n255 ",
+    ];
+    let mut read = 0;
+    for round in 0..300_000 {
+        let mut picture = [headers[round % 3].as_bytes(), PIXELS].concat();
+        for _ in 0..below(4) {
+            let (at, byte) = (below(picture.len() - AREA + 1), BYTES[below(BYTES.len())]);
+            match below(3) {
+                0 => picture[at] = byte,
+                1 => picture.insert(at, byte),
+                _ => drop(picture.remove(at)),
+            }
+        }
+        let expected = is_picture(&picture, [WIDTH, HEIGHT], AREA);
+        assert_eq!(reads(&picture), expected, "{}", picture.escape_ascii());
+        read += usize::from(expected);
+    }
+    assert!((80_000..250_000).contains(&read), "{read}");
+}
