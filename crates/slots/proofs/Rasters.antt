@@ -2,16 +2,17 @@
 -- Assumes nothing.
 use mathlib.Core.Path.{_≡_, refl, ap, sym, _∙_}
 use mathlib.Core.Bool.{Bool, true, false, cond, _&&_, _||_}
-use mathlib.Core.List.{List}
+use mathlib.Core.List.{List, _++_}
 use Prim.Native.Nat.{ℕ, _+_, _-_, _*_, _≤_, _<_}
 use native.Mathlib.Omega.{arith}
-use borrow.Author.Tests.{le-leb, lt-leb, leb-true, eqb-true}
+use borrow.Author.Tests.{le-leb, lt-leb, leb-true, eq-eqb, eqb-true}
 use lib.Dec.{eqb, leb}
-use lib.ListN.{length, length-drop}
-use Rattle.lemmas.proofs.Booleans.{by-cases, of-either, and-left, and-right}
+use lib.ListN.{length, take, drop, length-drop}
+use Rattle.lemmas.proofs.Booleans.{by-cases, of-either, and-left, and-right, both}
 use Rattle.lemmas.proofs.Memories.{put-whole}
 use Rattle.pictures.specs.Lent.{Lent as Given, lent as given}
-use Rattle.pictures.specs.Pictures.{isPicture, pixelsOf, sizeOf}
+use Rattle.pictures.specs.Pictures.{isPicture, pixelsOf, pictureOf, sizeOf}
+use Rattle.pictures.proofs.RoundTrip.{restores}
 use Rattle.pictures.specs.Writing.{writtenOf}
 use Rattle.pictures.specs.Reading.{readOf}
 use Rattle.pictures.specs.declared.writing.WriteStatus.{WriteStatus}
@@ -178,4 +179,44 @@ module _ (z : Sizes) (a p : Slot) (number : ℕ) (picture buffer : List ℕ) whe
       write-done z a p number 0 pixels buffer named (omega (arith, long)) u pixels
       (sym (put-whole buffer pixels (long ∙ sym area)))))
       (λ t. rw t (λ n. absurd (omega (arith, n))))))))
+      (λ named. rw named (λ n. absurd (omega (arith, n))))
+
+-- importing what an export wrote restores the pixels, whatever the buffer holds by then
+module _ (z : Sizes) (a p : Slot) (number : ℕ) (pixels output buffer : List ℕ) where
+  abbrev width : ℕ
+  width = z .extent .width
+
+  abbrev height : ℕ
+  height = z .extent .height
+
+  abbrev size : ℕ
+  size = sizeOf width height
+
+  abbrev shown : Exporting
+  shown = exportReport z number pixels output
+
+  read-back : length pixels ≡ areaOf z → size ≤ length output → length buffer ≡ areaOf z
+      → given Read pixels ≡ readOf width height (take size (pictureOf width height pixels ++ drop size output)) buffer
+  unfolding writtenOf
+  read-back e f g =
+      sym (restores width height pixels output buffer e f g)
+      ∙ ap (λ (l : List ℕ). readOf width height (take size l) buffer) (rw (eq-eqb (length pixels) (width * height) e, le-leb size (length output) f))
+
+  pub import-restores : shown .report .number ≡ 0 → (a .taken || p .taken) ≡ false → length buffer ≡ length pixels
+      → leaves 0 pixels ≡ importReport z a p number (take (shown .written) (shown .output)) buffer
+  unfolding exportReport
+  import-restores =
+      by-cases (leb number 1 && eqb (length pixels) (areaOf z))
+      (λ named.
+      rw named
+      (by-cases (leb size (length output))
+      (λ fits.
+      rw fits
+      (λ n free same.
+      let long = eqb-true (length pixels) (areaOf z) (and-right (leb number 1) (eqb (length pixels) (areaOf z)) named) in
+      let one = and-left (leb number 1) (eqb (length pixels) (areaOf z)) named in
+      import-by z a p number (take size (pictureOf width height pixels ++ drop size output)) buffer
+      (both one (eq-eqb (length buffer) (areaOf z) (same ∙ long))) free Read Read pixels
+      (read-back long (leb-true size (length output) fits) (same ∙ long)) refl))
+      (λ fits. rw fits (λ n. absurd (omega (arith, n))))))
       (λ named. rw named (λ n. absurd (omega (arith, n))))
