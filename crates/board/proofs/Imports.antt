@@ -1,23 +1,25 @@
 -- What export and import answer, from what the slots say; that a refusal leaves the buffer; and that an accepted import is a window
--- write (02, R-9).
+-- write, and restores what was exported (02, R-9).
 -- Assumes nothing.
-use mathlib.Core.Path.{_≡_, refl, ap, sym, _∙_}
-use mathlib.Core.Bool.{true, false}
+use mathlib.Core.Path.{_≡_, refl, ap, ap₂, sym, subst, _∙_}
+use mathlib.Core.Bool.{true, false, _||_}
 use mathlib.Core.List.{List}
 use Prim.Native.Nat.{ℕ}
 use native.Mathlib.Omega.{arith}
+use lib.ListN.{take}
 use Rattle.lemmas.proofs.Booleans.{by-cases, of-either}
 use Rattle.answers.specs.Reports.{report}
 use Rattle.pictures.specs.Pictures.{pixelsOf}
 use Rattle.slots.specs.Slots.{slotOf}
-use Rattle.slots.specs.Calls.{Lent}
+use Rattle.slots.specs.Calls.{Lent, leaves}
 use Rattle.slots.specs.Picturing.{Exporting, exportReport, importReport}
 use Rattle.slots.proofs.Grounds.{NumberAlone}
-use Rattle.slots.proofs.Rasters.{export-leaves, export-number, import-leaves, import-number, import-writes}
+use Rattle.slots.proofs.Rasters.{export-leaves, export-number, import-leaves, import-number, import-writes, import-restores}
 use Rattle.board.specs.Record.{wellFormed}
 use Rattle.board.specs.Calls.{Written, kept, keptBy, writeCall}
-use Rattle.board.specs.Picturing.{Exported, exportedBy, exportCall, importCall}
+use Rattle.board.specs.Picturing.{Exported, exportedBy, exportCall, importCall, ImportRestores}
 use Rattle.board.specs.declared.record.Board.{Board}
+use Rattle.board.proofs.Forms.{good-of, none-waits}
 use Rattle.board.proofs.Refused.{Stays}
 use Rattle.board.proofs.Replies.{write-by}
 
@@ -82,3 +84,19 @@ module _ (number : ℕ) (picture buffer : List ℕ) (b : Board) where
       sym (import-by w importSaid refl)
       ∙ write-by number 0 (pixelsOf (b .sizes .extent .width) (b .sizes .extent .height) picture) buffer b w importSaid
       (import-writes (b .sizes) (slotOf (b .active)) (b .pending) number picture buffer n)
+
+pub imports-restore : ImportRestores
+imports-restore b number pixels output buffer n idle same =
+    by-cases (wellFormed b)
+    (λ w.
+    let z = b .sizes in
+    let x = exportReport z number pixels output in
+    let e = export-by number pixels output b w x refl in
+    let free = ap₂ _||_ idle (none-waits b (good-of b w) idle) in
+    let done = ap (λ (r : Exported). r .report .number) e ∙ n in
+    subst (λ (r : Exported). importCall number (take (r .written) (r .output)) buffer b ≡ kept 0 b pixels) e
+    (sym (import-by number (take (x .written) (x .output)) buffer b w (leaves 0 pixels)
+    (import-restores z (slotOf (b .active)) (b .pending) number pixels output buffer done free same))))
+    (λ w.
+    let one = ap (λ (r : Exported). r .report .number) (export-malformed number pixels output b w) ∙ n in
+    absurd (omega (arith, one)))

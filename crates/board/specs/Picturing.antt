@@ -1,7 +1,9 @@
 -- The calls export and import (02, R-9).
-use mathlib.Core.Bool.{cond}
+use mathlib.Core.Path.{_≡_}
+use mathlib.Core.Bool.{false, cond}
 use mathlib.Core.List.{List}
 use Prim.Native.Nat.{ℕ}
+use lib.ListN.{length, take}
 use Rattle.answers.specs.Reports.{Report, report, reportOf}
 use Rattle.slots.specs.Slots.{slotOf}
 use Rattle.slots.specs.Picturing.{Exporting, exportReport, importReport}
@@ -33,3 +35,11 @@ exportCall number buffer output b =
 unfoldable pub importCall : ℕ → List ℕ → List ℕ → Board → Written
 importCall number picture buffer b =
     cond (wellFormed b) (keptBy b (importReport (b .sizes) (slotOf (b .active)) (b .pending) number picture buffer)) (kept 1 b buffer)
+
+-- "On an idle board, importing an export restores that buffer": exactly the bytes that it wrote, whatever the buffer holds by then;
+-- proved in proofs/Imports.antt.
+abbrev pub ImportRestores : Type 0
+ImportRestores =
+    (b : Board) (number : ℕ) (pixels output buffer : List ℕ) → let r = exportCall number pixels output b in
+    r .report .number ≡ 0 → b .active .taken ≡ false → length buffer ≡ length pixels
+    → importCall number (take (r .written) (r .output)) buffer b ≡ kept 0 b pixels

@@ -14,8 +14,8 @@ use Rattle.pictures.specs.declared.writing.WriteStatus.the-variants.{Don
 abbrev pub putAt : List ℕ → ℕ → List ℕ → Lent ℕ
 putAt l at bytes = lent (at + length bytes) (sets l at bytes)
 
--- Too short is the output "exactly where [it] is shorter than the picture needs". The output past the picture stays; in a
--- refusal all stays.
+-- Too short is "exactly where the output is shorter than the picture needs". The output past the picture stays; in a refusal all
+-- stays.
 unfoldable pub writtenOf : ℕ → ℕ → List ℕ → List ℕ → Lent WriteStatus
 writtenOf width height pixels output =
     let size = sizeOf width height in

@@ -96,7 +96,6 @@ module _ (w : World) where
       ap (λ (r : Received). record { report = report (r .number) 0 0; after = caller (r .words) (r .memory) (w .display) (w .virt) })
       (of-image b (λ b. receivedBy (feedCall (w .list) f piece b)) (received 1 (wordsOf b) f (w .list)))
       ∙ (λ i. record { report = alone i; after = caller (wordsOf (r .after .board)) (r .after .memory) (w .display) (w .virt) })
-
   return-same (import number picture) =
       returns-by (eqb number 0) _ _ _ _
       (changed-return (w .display) (λ words memory. caller words (w .list) memory (w .virt)) (importCall number picture (w .display))

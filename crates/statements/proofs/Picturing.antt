@@ -68,9 +68,9 @@ module _ (w : World) (v : Valid w) (number : ℕ) (picture : List ℕ) where
         let same = import-stays number picture buffer (w .board) n in
         let P : ℕ → Type 0 = λ k. (k ≡ 1 → ⊥) × (k ≡ 9 → ⊥) in
         let not = subst P answer
-            (import-answers (w .board .sizes) (slotOf (w .board .active)) (w .board .pending) number picture buffer P
-            (λ e. omega (arith, e), λ e. omega (arith, e)) (λ e. omega (arith, e), λ e. omega (arith, e))
-            (λ e. omega (arith, e), λ e. omega (arith, e)) (λ e. omega (arith, e), λ e. omega (arith, e))) in
+        (import-answers (w .board .sizes) (slotOf (w .board .active)) (w .board .pending) number picture buffer P
+        (λ e. omega (arith, e), λ e. omega (arith, e)) (λ e. omega (arith, e), λ e. omega (arith, e))
+        (λ e. omega (arith, e), λ e. omega (arith, e)) (λ e. omega (arith, e), λ e. omega (arith, e))) in
         subst (Kept w (import number picture)) (sym (stays reply (same .0) (same .1)))
         (refused w v (import number picture) (reply .report) refl n (not .0) (not .1)))
 
@@ -109,8 +109,8 @@ module _ (w : World) (v : Valid w) (number : ℕ) (output : List ℕ) where
       let same = export-board number buffer output b in
       let P : ℕ → Type 0 = λ k. (k ≡ 1 → ⊥) × (k ≡ 9 → ⊥) in
       let not = subst (λ (r : Exported). P (r .report .number)) (export-by number buffer output b (v .well) _ refl)
-          (export-numbers (b .sizes) number buffer output P
-          (λ e. omega (arith, e), λ e. omega (arith, e)) (λ e. omega (arith, e), λ e. omega (arith, e)) (λ e. omega (arith, e), λ e. omega (arith, e))) in
+      (export-numbers (b .sizes) number buffer output P
+      (λ e. omega (arith, e), λ e. omega (arith, e)) (λ e. omega (arith, e), λ e. omega (arith, e)) (λ e. omega (arith, e), λ e. omega (arith, e))) in
       subst (λ b. Kept w (export number output) (record { report = shown .report; after = world b (w .list) (w .display) (w .virt) })) (sym same)
       (record {
         valid = v;
