@@ -14,8 +14,8 @@
  * a feed that is given a bad feed record, no run answers 9, and after each call both pictures are those of the lists run in
  * the order in which they were accepted, as far as the steps reported, each list as it read when it was posted. A feed may
  * be given any feed record. What voids it: a change of the board record, of list memory but by pramolyt_store or
- * pramolyt_feed, or of a picture but by pramolyt_window_write; or a memory of another size, for that call alone, which
- * answers 2 and changes nothing.
+ * pramolyt_feed, or of a buffer but by pramolyt_window_write or pramolyt_import; or a memory of another size, for that call
+ * alone, which answers 2 and changes nothing.
  */
 #ifndef PRAMOLYT_H
 #define PRAMOLYT_H
@@ -24,9 +24,9 @@
 #include <stdint.h>
 
 #define PRAMOLYT_VERSION_MAJOR 0
-#define PRAMOLYT_VERSION_MINOR 7
-#define PRAMOLYT_VERSION_PATCH 1
-#define PRAMOLYT_VERSION "0.7.1"
+#define PRAMOLYT_VERSION_MINOR 8
+#define PRAMOLYT_VERSION_PATCH 0
+#define PRAMOLYT_VERSION "0.8.0"
 
 /* The edition of the record and of the calls' arguments. The archive's symbols carry it, so that a program compiled with a
  * header of another edition does not link. In C and C++ one writes the names without it. */
@@ -37,6 +37,8 @@
 #define pramolyt_feed_start_fields pramolyt_feed_start_fields_r1
 #define pramolyt_feed_fields pramolyt_feed_fields_r1
 #define pramolyt_window_write pramolyt_window_write_r1
+#define pramolyt_export pramolyt_export_r1
+#define pramolyt_import pramolyt_import_r1
 #define pramolyt_run pramolyt_run_r1
 #define pramolyt_pack pramolyt_pack_r1
 #define pramolyt_unpack pramolyt_unpack_r1
@@ -49,20 +51,22 @@ extern "C" {
  * as they were. Where several grounds hold, the lowest number is answered. */
 enum {
     PRAMOLYT_DONE = 0,
-    PRAMOLYT_MALFORMED = 1,      /* the record fails the test of a board record: it was never made, or was changed between
-                                    calls. The test looks at the record alone; not every change is seen. Of a feed also: a
-                                    bad feed record, which one that starts past the end of list memory is too */
-    PRAMOLYT_WRONG_SIZE = 2,     /* a size or a length is wrong, or a buffer number; each call says which */
-    PRAMOLYT_NO_ENTRIES = 3,     /* a list of no entries */
-    PRAMOLYT_PAST_THE_END = 4,   /* a span passes the end of its memory; of a feed: the entries that the piece completes do;
-                                    of pack and unpack: more than 4096 entries */
-    PRAMOLYT_SLOTS_FULL = 5,     /* both slots are taken */
-    PRAMOLYT_ILLEGAL_ENTRY = 6,  /* the list has an illegal entry; *place is the first one */
-    PRAMOLYT_BUSY = 7,           /* a window write while a slot is taken */
-    PRAMOLYT_ENTRY_HELD = 8,     /* a store touches, or a feed's piece completes, an entry of a list in a slot */
-    PRAMOLYT_ILLEGAL_FETCH = 9,  /* a run came to an illegal entry; the *steps before it stand */
-    PRAMOLYT_MALFORMED_FILE = 10 /* a file is not of edition 2: a zero bit that is set, a 31 where an entry belongs, or data
-                                    in a 31 */
+    PRAMOLYT_MALFORMED = 1,       /* the record fails the test of a board record: it was never made, or was changed between
+                                     calls. The test looks at the record alone; not every change is seen. Of a feed also: a
+                                     bad feed record, which one that starts past the end of list memory is too */
+    PRAMOLYT_WRONG_SIZE = 2,      /* a size or a length is wrong, or a buffer number; each call says which */
+    PRAMOLYT_NO_ENTRIES = 3,      /* a list of no entries */
+    PRAMOLYT_PAST_THE_END = 4,    /* a span passes the end of its memory; of a feed: the entries that the piece completes do;
+                                     of pack and unpack: more than 4096 entries; of an export: the output is shorter than
+                                     the picture */
+    PRAMOLYT_SLOTS_FULL = 5,      /* both slots are taken */
+    PRAMOLYT_ILLEGAL_ENTRY = 6,   /* the list has an illegal entry; *place is the first one */
+    PRAMOLYT_BUSY = 7,            /* a window write or an import while a slot is taken */
+    PRAMOLYT_ENTRY_HELD = 8,      /* a store touches, or a feed's piece completes, an entry of a list in a slot */
+    PRAMOLYT_ILLEGAL_FETCH = 9,   /* a run came to an illegal entry; the *steps before it stand */
+    PRAMOLYT_MALFORMED_FILE = 10, /* a file is not of edition 2: a zero bit that is set, a 31 where an entry belongs, or data
+                                     in a 31 */
+    PRAMOLYT_NOT_A_PICTURE = 11   /* the input of an import is not one picture of the board's size, or has bytes after it */
 };
 
 /* Bytes of a list of so many entries, which is a file of edition 1 too; and of the same list in edition 2. An argument is
@@ -70,6 +74,10 @@ enum {
  * 19124 bytes at most. */
 #define PRAMOLYT_LIST_SIZE(entries) ((size_t)5 * (entries))
 #define PRAMOLYT_PACKED_SIZE(entries) ((size_t)14 * (((size_t)(entries) + 2) / 3))
+
+/* Bytes that a picture of a board of this size needs at most: its header has 17 at most, its pixels a byte each. An argument
+ * is evaluated once. */
+#define PRAMOLYT_PICTURE_MAX(width, height) ((size_t)17 + (size_t)(width) * (height))
 
 /* The board record. The caller keeps it between calls and need not look into it. A flag is 0 or 1; a record with another
  * value in a flag is malformed. */
@@ -160,6 +168,23 @@ static inline uint32_t pramolyt_feed(pramolyt_board *board, pramolyt_feed_record
 uint32_t pramolyt_window_write(pramolyt_board *board, size_t number, size_t offset, const uint8_t *bytes,
                                size_t bytes_len, uint8_t *buffer, size_t buffer_len);
 
+/* Writes buffer `number`, 0 for display and 1 for virtual, which is the one that is lent, into the output as a picture in
+ * binary PGM (Netpbm P5): 0, 1, 2 or 4. The picture is "P5", a newline, the width, a space, the height, a newline, "255", a
+ * newline, and then the pixels; for 8 by 4 that is 43 bytes. With 0, *written is the bytes written, from the front of the
+ * output on; the bytes past them stay. In a refusal *written is 0 and the whole output stays. It is 2 where number is above
+ * 1, or buffer_len is not width * height; 4 exactly where output_len is less than the picture needs, which
+ * PRAMOLYT_PICTURE_MAX never is. While a slot is taken it is done all the same, with the buffer as the last run left it. */
+uint32_t pramolyt_export(pramolyt_board *board, uint64_t *written, size_t number, const uint8_t *buffer, size_t buffer_len,
+                         uint8_t *output, size_t output_len);
+
+/* Reads one picture in binary PGM, of the board's own size and with 255 as its greatest grey, into buffer `number`, 0 for
+ * display and 1 for virtual, which is the one that is lent: 0, 1, 2, 7 or 11. docs/FORMAT.md has what a picture may be; what
+ * pramolyt_export writes is one, so on an idle board importing an export restores its buffer. It is 2 where number is above
+ * 1, or buffer_len is not width * height; 7 while a slot is taken; 11 where the input is not such a picture, or has bytes
+ * after it. */
+uint32_t pramolyt_import(pramolyt_board *board, size_t number, const uint8_t *picture, size_t picture_len, uint8_t *buffer,
+                         size_t buffer_len);
+
 /* Runs the posted lists for at most `budget` steps (an entry fetched or a pixel visited): 0, 1, 2 or 9. It is 2 where
  * list_len is not 5 * entries, or display_len or virt_len not width * height. *steps is the steps done; with 0 it is the
  * lesser of the budget and the steps left in both lists. A blit visits only pixels inside the buffer and its clip, so it takes
@@ -214,19 +239,22 @@ static inline const char *pramolyt_answer_text(uint32_t answer)
     case PRAMOLYT_NO_ENTRIES:
         return "the list has no entries";
     case PRAMOLYT_PAST_THE_END:
-        return "the span passes the end of its memory, or the file has more than 4096 entries";
+        return "the span passes the end of its memory, the file has more than 4096 entries, or the output is too short for "
+               "the picture";
     case PRAMOLYT_SLOTS_FULL:
         return "two lists are waiting already; run one to its end first";
     case PRAMOLYT_ILLEGAL_ENTRY:
         return "an entry is illegal; the list was not posted or converted";
     case PRAMOLYT_BUSY:
-        return "a list is still to be drawn; run it to its end before writing a buffer";
+        return "a list is still to be drawn; run it to its end before writing a buffer or importing a picture";
     case PRAMOLYT_ENTRY_HELD:
         return "a list that is still to be drawn has one of these entries";
     case PRAMOLYT_ILLEGAL_FETCH:
         return "an illegal entry stopped the run; list memory or the record was changed since the post";
     case PRAMOLYT_MALFORMED_FILE:
         return "the file is not of edition 2: a zero bit, a missing entry or its data is wrong";
+    case PRAMOLYT_NOT_A_PICTURE:
+        return "the input is not one binary PGM picture of the board's size with greatest grey 255, or has bytes after it";
     default:
         return "no answer of this library";
     }

@@ -1,8 +1,10 @@
 /* A ship's call on a berth board, written in a font of one bit a pixel, and the call cancelled: a bar struck through its
  * lines. It shows all that there is to using the library: make a board, own its three memories, write a font into the
- * virtual buffer, store a display list into list memory, post it, and run it.
+ * virtual buffer, store a display list into list memory, post it, and run it. With a file name as its argument it also writes
+ * the cancelled call into that file, as a picture in binary PGM.
  *
  *     cc -Iinclude examples/c/cancelled_call.c target/staticlib/libpramolyt.a -o target/cancelled_call
+ *     target/cancelled_call target/cancelled_call.pgm
  */
 #include <assert.h>
 #include <inttypes.h>
@@ -139,7 +141,20 @@ static void print(void)
     }
 }
 
-int main(void)
+/* Writes the display as a picture into a file. */
+static void write_picture(const char *name)
+{
+    static uint8_t picture[PRAMOLYT_PICTURE_MAX(WIDTH, HEIGHT)];
+    uint64_t written;
+    check("export", pramolyt_export(&board, &written, PRAMOLYT_DISPLAY, display, sizeof display, picture, sizeof picture));
+    FILE *file = fopen(name, "wb");
+    if (file == NULL || fwrite(picture, 1, (size_t)written, file) != written || fclose(file) != 0) {
+        perror(name);
+        exit(1);
+    }
+}
+
+int main(int argc, char **argv)
 {
     display_list first = call(), second = bar();
     uint8_t before[sizeof display];
@@ -150,6 +165,8 @@ int main(void)
     memcpy(before, display, sizeof display);
     draw("the bar", &second);
     print();
+    if (argc > 1)
+        write_picture(argv[1]);
     draw("the bar again", &second);
     int same = memcmp(before, display, sizeof display) == 0;
     puts(same ? "the call stands as before" : "the call is not as before");

@@ -161,11 +161,11 @@ static void record_changed(void)
 
 static void texts(void)
 {
-    const char *other = pramolyt_answer_text(11);
+    const char *other = pramolyt_answer_text(12);
     uint32_t i, j;
     check(strcmp(pramolyt_answer_text(PRAMOLYT_DONE), "done") == 0, "text", "done");
     check(strcmp(pramolyt_answer_text(UINT32_MAX), other) == 0, "text", "any other number");
-    for (i = 0; i < 11; i++) {
+    for (i = 0; i < 12; i++) {
         check(strcmp(pramolyt_answer_text(i), other) != 0, "text", "an answer");
         for (j = 0; j < i; j++)
             check(strcmp(pramolyt_answer_text(i), pramolyt_answer_text(j)) != 0, "text", "each its own");

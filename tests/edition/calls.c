@@ -7,9 +7,12 @@ int main(void)
     pramolyt_board board;
     pramolyt_feed_record feed;
     uint8_t list[5] = {0}, display[1] = {0}, virt[1] = {0}, packed[14];
+    uint8_t picture[PRAMOLYT_PICTURE_MAX(1, 1)];
     uint64_t place, steps, written;
     uint32_t answers = pramolyt_make(&board, 1, 1, 1);
     answers |= pramolyt_window_write(&board, 0, 0, pixel, 1, display, 1);
+    answers |= pramolyt_export(&board, &written, 0, display, 1, picture, sizeof picture);
+    answers |= pramolyt_import(&board, 1, picture, (size_t)written, virt, 1);
     answers |= pramolyt_store(&board, list, 5, 0, noop, 5);
     pramolyt_feed_start(&feed, 0);
     answers |= pramolyt_feed(&board, &feed, list, 5, noop, 5);

@@ -17,6 +17,7 @@ pub enum Status {
     EntryHeld,
     // An illegal entry was fetched after so many steps.
     IllegalFetch(u64),
+    NotAPicture,
 }
 
 impl Status {
@@ -35,6 +36,7 @@ impl Status {
             Status::Busy => 7,
             Status::EntryHeld => 8,
             Status::IllegalFetch(_) => 9,
+            Status::NotAPicture => 11,
         }
     }
 
@@ -53,6 +55,7 @@ impl Status {
             Status::Busy => 0,
             Status::EntryHeld => 0,
             Status::IllegalFetch(steps) => steps,
+            Status::NotAPicture => 0,
         }
     }
 
@@ -71,6 +74,7 @@ impl Status {
             Status::Busy => 0,
             Status::EntryHeld => 0,
             Status::IllegalFetch(_) => 0,
+            Status::NotAPicture => 0,
         }
     }
 }

@@ -8,3 +8,4 @@ pub mod Replies
 pub mod Feeds
 pub mod Cuts
 pub mod Stopped
+pub mod Imports

@@ -6,3 +6,4 @@ pub mod Stopped
 pub mod Calls
 pub mod Wholes
 pub mod Feeding
+pub mod Picturing

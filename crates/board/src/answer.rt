@@ -15,3 +15,10 @@ pub struct FeedAnswer {
     pub board: Board,
     pub feed: Feed,
 }
+
+// The outcome of an export, the record, and the bytes written.
+pub struct ExportAnswer {
+    pub status: Status,
+    pub board: Board,
+    pub written: usize,
+}

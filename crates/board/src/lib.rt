@@ -2,10 +2,12 @@
 mod answer;
 mod calls;
 mod feeding;
+mod picturing;
 mod record;
 mod runs;
 mod steps;
 
 pub use answer::Answer;
+pub use answer::ExportAnswer;
 pub use answer::FeedAnswer;
 pub use record::Board;

@@ -4,12 +4,13 @@ use mathlib.Core.Path.{_≡_, ap, sym, _∙_}
 use mathlib.Core.Bool.{false, _&&_, and-assoc, and-false}
 use mathlib.Core.Logic.{⊎-elim}
 use Prim.Native.Nat.{ℕ, _+_, _-_, _*_, _/_, _%_, _^_, _≤_, _<_}
-use native.Mathlib.Nat.{mul-le-mul, mul-le-mul-right, add-mul, one-mul, mul-comm}
+use native.Mathlib.Nat.{mul-le-mul-right, add-mul, one-mul, mul-comm}
 use native.Mathlib.Omega.{arith}
 use borrow.Author.Tests.{leb-true, le-leb, lt-leb, lt-ltb, le-ltb}
 use lib.Arith.{digits-div, digits-mod}
 use lib.Dec.{leb}
 use Rattle.lemmas.proofs.Booleans.{by-cases}
+use Rattle.lemmas.proofs.Products.{product-most}
 use Rattle.geometry.specs.Coordinates.{origin}
 use Rattle.geometry.specs.Clip.{inBuffer, placeIn, placeOf, ReversedHoldsNothing, PlacesFit, PlacesDiffer}
 use Rattle.geometry.specs.declared.Extent.{Extent}
@@ -38,10 +39,7 @@ area width height x y h l =
 
 -- the product of two 32-bit numbers fits 64 bits
 pub product-fits : (a b : ℕ) → a < 2 ^ 32 → b < 2 ^ 32 → a * b < 2 ^ 64
-product-fits a b h l =
-    let most : a * b ≤ 4294967295 * 4294967295 =
-    mul-le-mul {n₁ = a} {m₁ = b} {n₂ = 4294967295} {m₂ = 4294967295} (omega arith) (omega arith) in
-    omega arith
+product-fits a b h l = omega (arith, product-most a b h l)
 
 pub area-fits : (width height x y : ℕ) → width < 2 ^ 32 → height < 2 ^ 32 → x < width → y < height → y * width + x < 2 ^ 64
 area-fits width height x y hw hh h l = omega (arith, area width height x y h l, product-fits width height hw hh)

@@ -1,11 +1,12 @@
--- A memory after bytes were put into it: its length, the bytes before and after them, and bytes put in two parts.
+-- A memory after bytes were put into it, at once or one by one: its length, the bytes before and after them, and bytes put in two
+-- parts.
 -- Assumes nothing.
 use mathlib.Core.Path.{_≡_, ap, ap₂, sym, _∙_}
-use mathlib.Core.List.{List, [], _++_, append-assoc, append-nil}
-use Prim.Native.Nat.{ℕ, _+_, _-_, _≤_, _<_}
+use mathlib.Core.List.{List, [], _∷_, _++_, append-assoc, append-nil}
+use Prim.Native.Nat.{ℕ, suc, _+_, _-_, _≤_, _<_}
 use native.Mathlib.Omega.{arith}
-use lib.ListN.{length, getD, take, drop, length-append, length-drop, take-append-drop, List·getD-append}
-use lib.Seq.{getD-append-add, getD-take, getD-drop, length-take-le, take-at, drop-at, drop-drop}
+use lib.ListN.{length, getD, set, take, drop, length-append, length-drop, drop-of-length-le, take-append-drop, List·getD-append}
+use lib.Seq.{getD-append-add, getD-take, getD-drop, length-take-le, take-at, drop-at, drop-drop, sets, sets-eq}
 use Rattle.lemmas.specs.Memory.{putInto}
 
 -- before and after the bytes that were put
@@ -58,3 +59,21 @@ unfolding putInto
 put-none l at =
     let same : at + 0 ≡ at = omega arith in
     ap (λ front. front ++ drop (at + 0) l) (append-nil (take at l)) ∙ ap (λ k. take at l ++ drop k l) same ∙ take-append-drop at l
+
+-- as many bytes as the memory has replace it
+pub put-whole : (l bytes : List ℕ) → length bytes ≡ length l → putInto l 0 bytes ≡ bytes
+unfolding putInto
+put-whole l bytes e =
+    let end : 0 + length bytes ≡ length bytes = omega arith in
+    ap (λ k. bytes ++ drop k l) end ∙ ap (λ rest. bytes ++ rest) (drop-of-length-le l {i = length bytes} (omega (arith, e))) ∙ append-nil bytes
+
+-- ---- bytes put one by one, in two parts, and from the front
+pub sets-join : (xs ys l : List ℕ) (at : ℕ) → sets (sets l at xs) (at + length xs) ys ≡ sets l at (xs ++ ys)
+sets-join [] ys l at = let h : at + 0 ≡ at = omega arith in rw h
+sets-join (x ∷ xs) ys l at =
+    let h : at + suc (length xs) ≡ suc at + length xs = omega arith in rw h (sets-join xs ys (set l at x) (suc at))
+
+pub sets-front : (xs l : List ℕ) → length xs ≤ length l → sets l 0 xs ≡ xs ++ drop (length xs) l
+sets-front xs l h =
+    let e : 0 + length xs ≡ length xs = omega arith in
+    sets-eq xs l 0 (omega arith) ∙ ap (λ (k : ℕ). xs ++ drop k l) e

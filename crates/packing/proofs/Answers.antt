@@ -10,6 +10,7 @@ use lib.Dec.{eqb, ltb}
 use lib.ListN.{length, drop}
 use lib.Seq.{sets}
 use Rattle.lemmas.proofs.Booleans.{by-cases, or-none-left, or-none-right, first-of, second-of}
+use Rattle.lemmas.proofs.Memories.{sets-front}
 use Rattle.entries.specs.Layout.{entryOf}
 use Rattle.entries.specs.Legality.{entryLegal}
 use Rattle.entries.specs.declared.decoding.Entry.{Entry}
@@ -21,7 +22,7 @@ use Rattle.packing.specs.Conversions.{passes, wellFormed, judgement, las
 use Rattle.packing.specs.Conversions.{converted, convertedTo, packOf, unpackOf}
 use Rattle.packing.specs.declared.statuses.FileStatus.{FileStatus}
 use Rattle.packing.specs.declared.statuses.FileStatus.the-variants.{Done, WrongSize, NoEntries, TooMany, IllegalEntry, MalformedFile}
-use Rattle.packing.proofs.Runs.{sets-front, length-strung}
+use Rattle.packing.proofs.Runs.{length-strung}
 use Rattle.packing.proofs.Puts.{entry-length, group-length, packed-is}
 use Rattle.packing.proofs.Judges.{count-most}
 

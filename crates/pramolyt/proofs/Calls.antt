@@ -10,12 +10,14 @@ use Rattle.board.specs.Calls.{reply, makeCall, postCall, written, storeCall, wr
 use Rattle.board.specs.Steps.{machine}
 use Rattle.board.specs.Runs.{outcome, runCall}
 use Rattle.board.specs.Feeding.{feedReply, feedCall}
+use Rattle.board.specs.Picturing.{exported, exportCall, importCall}
+use Rattle.board.specs.declared.answer.ExportAnswer.{ExportAnswer}
 use Rattle.board.specs.declared.answer.FeedAnswer.{FeedAnswer}
 use Rattle.feeds.specs.declared.Feed.{Feed}
 use Rattle.board.specs.declared.answer.Answer.{Answer}
 use Rattle.board.specs.declared.record.Board.{Board}
 use Rattle.pramolyt.specs.Image.{wordsOf, boardOf, flagsOk}
-use Rattle.pramolyt.specs.Exports.{ofImage, made, madeBy, makeImage, posted, postedBy, postImage, changed, changedBy, storeImage, writeImage, ran, ranBy, runImage, received, receivedBy, feedImage}
+use Rattle.pramolyt.specs.Exports.{ofImage, made, madeBy, makeImage, posted, postedBy, postImage, changed, changedBy, storeImage, writeImage, pictured, picturedBy, exportImage, importImage, ran, ranBy, runImage, received, receivedBy, feedImage}
 
 -- a flag is neither 0 nor 1
 module _ (w : List ℕ) (t : Bool) (judged : t ≡ flagsOk w) (bad : not t ≡ true) where
@@ -34,6 +36,14 @@ module _ (w : List ℕ) (t : Bool) (judged : t ≡ flagsOk w) (bad : not t ≡ t
   unfolding writeImage
   write-refused number offset bytes buffer =
       refused (changedBy (writeCall number offset bytes buffer (boardOf w))) (changed 1 w buffer)
+
+  pub export-refused : (number : ℕ) (buffer output : List ℕ) → pictured 1 w 0 output ≡ exportImage w number buffer output
+  unfolding exportImage
+  export-refused number buffer output = refused (picturedBy (exportCall number buffer output (boardOf w))) (pictured 1 w 0 output)
+
+  pub import-refused : (number : ℕ) (picture buffer : List ℕ) → changed 1 w buffer ≡ importImage w number picture buffer
+  unfolding importImage
+  import-refused number picture buffer = refused (changedBy (importCall number picture buffer (boardOf w))) (changed 1 w buffer)
 
   pub run-refused : (budget : ℕ) (list display virt : List ℕ) → ran 1 w 0 display virt ≡ runImage w budget list display virt
   unfolding runImage
@@ -56,6 +66,13 @@ module _ (w : List ℕ) (t : Bool) (judged : t ≡ flagsOk w) (good : not t ≡ 
   unfolding feedImage
   feed-done a words encoded number numbered f list piece memory answered =
       rw (encoded, numbered) (on-record receivedBy (feedCall list f piece) (feedReply a memory) answered (received 1 w f list))
+
+  pub export-done : (a : ExportAnswer) (words : List ℕ) → words ≡ wordsOf (a .board) → (number : ℕ) → number ≡ reportOf (a .status) .number
+      → (bytes n : ℕ) (buffer output after : List ℕ) → bytes ≡ a .written → exported a after ≡ exportCall n buffer output b
+      → pictured number words bytes after ≡ exportImage w n buffer output
+  unfolding exportImage
+  export-done a words encoded number numbered bytes n buffer output after count answered =
+      rw (encoded, numbered, count) (on-record picturedBy (exportCall n buffer output) (exported a after) answered (pictured 1 w 0 output))
 
 -- an answer handed back
 module _ (a : Answer) (words : List ℕ) (encoded : words ≡ wordsOf (a .board)) (number : ℕ) (numbered : number ≡ reportOf (a .status) .number) where
@@ -86,6 +103,12 @@ module _ (a : Answer) (words : List ℕ) (encoded : words ≡ wordsOf (a .board)
     unfolding writeImage
     write-done n offset bytes buffer memory answered =
         rw (encoded, numbered) (done changedBy (writeCall n offset bytes buffer) (written a memory) answered (changed 1 w buffer))
+
+    pub import-done : (n : ℕ) (picture buffer memory : List ℕ) → written a memory ≡ importCall n picture buffer b
+        → changed number words memory ≡ importImage w n picture buffer
+    unfolding importImage
+    import-done n picture buffer memory answered =
+        rw (encoded, numbered) (done changedBy (importCall n picture buffer) (written a memory) answered (changed 1 w buffer))
 
     pub run-done : (budget : ℕ) (list display virt d v : List ℕ) → outcome a d v ≡ runCall budget list (machine b display virt)
         → (steps : ℕ) → steps ≡ reportOf (a .status) .steps → ran number words steps d v ≡ runImage w budget list display virt

@@ -12,9 +12,11 @@ use Rattle.board.specs.declared.record.Board.{Board}
 use Rattle.feeds.specs.declared.Feed.{Feed}
 use Rattle.board.specs.Feeding.{line, feedCall}
 use Rattle.board.proofs.Feeds.{refused-feed}
+use Rattle.board.specs.Picturing.{importCall}
+use Rattle.board.proofs.Imports.{export-board, export-stays, import-stays}
 use Rattle.board.proofs.Refused.{post-given, Stays, store-stays, write-stays, run-halts}
 use Rattle.pramolyt.specs.Image.{words, wordsOf, boardOf, flagsOk}
-use Rattle.pramolyt.specs.Exports.{ofImage, Posted, postImage, Changed, changed, changedBy, storeImage, writeImage, Ran, runImage, Received, feedImage, RefusedPost, RefusedStore, RefusedWrite, RefusedRun, RefusedFeed}
+use Rattle.pramolyt.specs.Exports.{ofImage, Posted, postImage, Changed, changed, changedBy, storeImage, writeImage, Pictured, exportImage, importImage, Ran, runImage, Received, feedImage, RefusedPost, RefusedStore, RefusedWrite, RefusedExport, RefusedImport, RefusedRun, RefusedFeed}
 use Rattle.pramolyt.proofs.RoundTrips.{encodes-decoded}
 
 judged : {A : Type 0} (P : A → Type 0) (w : List ℕ) {done stays : A} → (flagsOk w ≡ true → P done) → P stays → P (ofImage w done stays)
@@ -48,6 +50,18 @@ pub refused-write : RefusedWrite
 unfolding writeImage
 refused-write w number offset bytes buffer long =
     changed-refused w buffer long (writeCall number offset bytes buffer (boardOf w)) (write-stays number offset bytes buffer (boardOf w))
+
+pub refused-import : RefusedImport
+unfolding importImage
+refused-import w number picture buffer long =
+    changed-refused w buffer long (importCall number picture buffer (boardOf w)) (import-stays number picture buffer (boardOf w))
+
+pub refused-export : RefusedExport
+unfolding exportImage
+refused-export w number buffer output long =
+    judged (λ (r : Pictured). (r .words ≡ w) × ((r .number ≡ 0 → ⊥) → (r .output ≡ output) × (r .written ≡ 0))) w
+    (λ ok. (same w long ok (export-board number buffer output (boardOf w)), export-stays number buffer output (boardOf w)))
+    (refl, λ n. (refl, refl))
 
 pub refused-run : RefusedRun
 unfolding runImage

@@ -9,6 +9,7 @@ use Rattle.board.specs.Calls.{Reply, makeCall, postCall, Written, storeCall, wr
 use Rattle.board.specs.Steps.{machine}
 use Rattle.board.specs.Runs.{Outcome, runCall}
 use Rattle.board.specs.Feeding.{FeedReply, feedCall}
+use Rattle.board.specs.Picturing.{Exported, exportCall, importCall}
 use Rattle.feeds.specs.declared.Feed.{Feed}
 use Rattle.packing.specs.Conversions.{Converted, packOf, unpackOf}
 use Rattle.pramolyt.specs.Image.{words, wordsOf, boardOf, flagsOk}
@@ -68,6 +69,28 @@ storeImage w list first bytes = ofImage w (changedBy (storeCall list first bytes
 unfoldable pub writeImage : List ℕ → ℕ → ℕ → List ℕ → List ℕ → Changed
 writeImage w number offset bytes buffer =
     ofImage w (changedBy (writeCall number offset bytes buffer (boardOf w))) (changed 1 w buffer)
+
+-- ---- export and import (02, R-9)
+pub record Pictured : Type 0 where
+  pub number : ℕ
+  pub words : List ℕ
+  pub written : ℕ
+  pub output : List ℕ
+
+abbrev pub pictured : ℕ → List ℕ → ℕ → List ℕ → Pictured
+pictured number words written output = record { number = number; words = words; written = written; output = output }
+
+abbrev pub picturedBy : Exported → Pictured
+picturedBy r = pictured (r .report .number) (wordsOf (r .board)) (r .written) (r .output)
+
+-- Export: "1; 2 for board buffers; 4 exactly where the output is shorter than the picture needs".
+unfoldable pub exportImage : List ℕ → ℕ → List ℕ → List ℕ → Pictured
+exportImage w number buffer output =
+    ofImage w (picturedBy (exportCall number buffer output (boardOf w))) (pictured 1 w 0 output)
+
+-- Import: 1, 2, 7, 11. The memory is the buffer that is named.
+unfoldable pub importImage : List ℕ → ℕ → List ℕ → List ℕ → Changed
+importImage w number picture buffer = ofImage w (changedBy (importCall number picture buffer (boardOf w))) (changed 1 w buffer)
 
 -- ---- run
 pub record Ran : Type 0 where
@@ -143,6 +166,17 @@ RefusedStore =
 abbrev pub RefusedWrite : Type 0
 RefusedWrite =
     (w : List ℕ) (number offset : ℕ) (bytes buffer : List ℕ) → length w ≡ words → let r = writeImage w number offset bytes buffer in
+    (r .number ≡ 0 → ⊥) → (r .words ≡ w) × (r .memory ≡ buffer)
+
+-- An export leaves the image in every case.
+abbrev pub RefusedExport : Type 0
+RefusedExport =
+    (w : List ℕ) (number : ℕ) (buffer output : List ℕ) → length w ≡ words → let r = exportImage w number buffer output in
+    (r .words ≡ w) × ((r .number ≡ 0 → ⊥) → (r .output ≡ output) × (r .written ≡ 0))
+
+abbrev pub RefusedImport : Type 0
+RefusedImport =
+    (w : List ℕ) (number : ℕ) (picture buffer : List ℕ) → length w ≡ words → let r = importImage w number picture buffer in
     (r .number ≡ 0 → ⊥) → (r .words ≡ w) × (r .memory ≡ buffer)
 
 abbrev pub RefusedRun : Type 0

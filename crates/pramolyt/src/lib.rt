@@ -2,7 +2,7 @@
 // the caller keeps; each call answers document 01's number (What the engine has, and What the host hears). Each name ends in
 // the edition of the record and of the arguments: a change of either changes the names, here and in the header.
 ghost use mathlib.Core.Path.{_≡_};
-ghost use Rattle.pramolyt.specs.Exports.{made, makeImage, posted, postImage, changed, storeImage, writeImage, ran, runImage, feedOf, received, feedImage, filed, packFile, unpackFile};
+ghost use Rattle.pramolyt.specs.Exports.{made, makeImage, posted, postImage, changed, storeImage, writeImage, pictured, exportImage, importImage, ran, runImage, feedOf, received, feedImage, filed, packFile, unpackFile};
 ghost use Rattle.feeds.specs.Feeds.{startAt};
 
 mod image;
@@ -92,6 +92,49 @@ pub extern "C" fn pramolyt_window_write_r1(
     let written = b.window_write(number, offset, bytes, buffer);
     let status = written.status;
     *board = encode(written.board);
+    status.number()
+}
+
+#[no_mangle]
+pub extern "C" fn pramolyt_export_r1(
+    board: &mut [u32; WORDS],
+    written: &mut u64,
+    number: usize,
+    buffer: &[u8],
+    output: &mut [u8],
+) -> u32
+    ensures { λ r. ⌜ pictured r (now (board .exit)) (now (written .exit)) (now (output .exit)) ≡ exportImage (now (board .entry)) number (now (buffer .entry)) (now (output .entry)) ⌝ }
+{
+    let w = *board;
+    if !flags_ok(w) {
+        *written = 0;
+        return 1;
+    }
+    let b = decode(w);
+    let done = b.export(number, buffer, output);
+    let status = done.status;
+    *board = encode(done.board);
+    *written = done.written as u64;
+    status.number()
+}
+
+#[no_mangle]
+pub extern "C" fn pramolyt_import_r1(
+    board: &mut [u32; WORDS],
+    number: usize,
+    picture: &[u8],
+    buffer: &mut [u8],
+) -> u32
+    ensures { λ r. ⌜ changed r (now (board .exit)) (now (buffer .exit)) ≡ importImage (now (board .entry)) number (now (picture .entry)) (now (buffer .entry)) ⌝ }
+{
+    let w = *board;
+    if !flags_ok(w) {
+        return 1;
+    }
+    let b = decode(w);
+    let done = b.import(number, picture, buffer);
+    let status = done.status;
+    *board = encode(done.board);
     status.number()
 }
 

@@ -17,12 +17,14 @@ use Rattle.board.specs.Runs.{runCall}
 use Rattle.board.specs.Calls.{Reply, answered, freshBoard, sizes, makeCall, postCall, Written, storeCall, writeCall}
 use Rattle.board.specs.declared.record.Board.{Board}
 use Rattle.board.specs.Feeding.{FeedReply, feedCall}
+use Rattle.board.specs.Picturing.{exportCall, importCall}
+use Rattle.board.proofs.Imports.{export-no-more, import-no-more}
 use Rattle.board.proofs.Feeds.{feed-no-more}
 use Rattle.board.proofs.Replies.{post-no-steps, store-no-more, write-no-more, run-no-place}
 use Rattle.pramolyt.specs.Image.{wordsOf, boardOf}
-use Rattle.pramolyt.specs.Exports.{ofImage, makeImage, Posted, posted, postedBy, postImage, Changed, changed, changedBy, storeImage, writeImage, Ran, ran, ranBy, runImage, Received, received, receivedBy, feedImage}
+use Rattle.pramolyt.specs.Exports.{ofImage, makeImage, Posted, posted, postedBy, postImage, Changed, changed, changedBy, storeImage, writeImage, Pictured, pictured, picturedBy, exportImage, importImage, Ran, ran, ranBy, runImage, Received, received, receivedBy, feedImage}
 use Rattle.pramolyt.proofs.RoundTrips.{decodes-encoded, encodes-flags}
-use Rattle.statements.specs.Paper.{Call, post, store, write, run, feed, paper}
+use Rattle.statements.specs.Paper.{Call, post, store, write, run, feed, import, export, paper}
 use Rattle.statements.specs.World.{World, world, Called, called, answersTo}
 use Rattle.statements.specs.Demand.{Throughout}
 use Rattle.statements.specs.Images.{Caller, caller, Returned, returned, worldIn, returnsTo, Demand3InC}
@@ -53,13 +55,12 @@ module _ (w : World) where
       (of-image b (λ b. changedBy (call b)) (changed 1 (wordsOf b) m))
       ∙ ap (λ t. record { report = t; after = lent (wordsOf (call b .board)) (call b .memory) }) (sym alone)
 
-  returns-by : (number offset : ℕ) (bytes : List ℕ) (t : Bool) (d v : Returned) (c e : Called) → d ≡ returnOf c → v ≡ returnOf e
-      → cond t d v ≡ returnOf (cond t c e)
-  returns-by number offset bytes true d v c e p q = p
-  returns-by number offset bytes false d v c e p q = q
+  returns-by : (t : Bool) (d v : Returned) (c e : Called) → d ≡ returnOf c → v ≡ returnOf e → cond t d v ≡ returnOf (cond t c e)
+  returns-by true d v c e p q = p
+  returns-by false d v c e p q = q
 
   return-same : (c : Call) → returned c (imageOf w) ≡ returnOf (called c w)
-  unfolding returned called postImage storeImage writeImage runImage feedImage
+  unfolding returned called postImage storeImage writeImage runImage feedImage exportImage importImage
   return-same (post start count) =
       let r = postCall (w .list) start count b in
       let none = sym (post-no-steps (w .list) start count b) in
@@ -74,7 +75,7 @@ module _ (w : World) where
       changed-return (w .list) (λ words memory. caller words memory (w .display) (w .virt)) (storeCall (w .list) first bytes)
       (store-no-more (w .list) first bytes b)
   return-same (write number offset bytes) =
-      returns-by number offset bytes (eqb number 0) _ _ _ _
+      returns-by (eqb number 0) _ _ _ _
       (changed-return (w .display) (λ words memory. caller words (w .list) memory (w .virt)) (writeCall number offset bytes (w .display))
       (write-no-more number offset bytes (w .display) b))
       (changed-return (w .virt) (λ words memory. caller words (w .list) (w .display) memory) (writeCall number offset bytes (w .virt))
@@ -95,6 +96,19 @@ module _ (w : World) where
       ap (λ (r : Received). record { report = report (r .number) 0 0; after = caller (r .words) (r .memory) (w .display) (w .virt) })
       (of-image b (λ b. receivedBy (feedCall (w .list) f piece b)) (received 1 (wordsOf b) f (w .list)))
       ∙ (λ i. record { report = alone i; after = caller (wordsOf (r .after .board)) (r .after .memory) (w .display) (w .virt) })
+  return-same (import number picture) =
+      returns-by (eqb number 0) _ _ _ _
+      (changed-return (w .display) (λ words memory. caller words (w .list) memory (w .virt)) (importCall number picture (w .display))
+      (import-no-more number picture (w .display) b))
+      (changed-return (w .virt) (λ words memory. caller words (w .list) (w .display) memory) (importCall number picture (w .virt))
+      (import-no-more number picture (w .virt) b))
+  return-same (export number output) =
+      let x = cond (eqb number 0) (w .display) (w .virt) in
+      let r = exportCall number x output b in
+      let alone = sym (export-no-more number x output b) in
+      ap (λ (r : Pictured). record { report = report (r .number) 0 0; after = caller (r .words) (w .list) (w .display) (w .virt) })
+      (of-image b (λ b. picturedBy (exportCall number x output b)) (pictured 1 (wordsOf b) 0 output))
+      ∙ (λ i. record { report = alone i; after = caller (wordsOf (r .board)) (w .list) (w .display) (w .virt) })
 
 returns-same : (calls : List Call) (w : World) → returnsTo calls (imageOf w) ≡ answersTo calls w
 unfolding returnsTo answersTo

@@ -5,6 +5,7 @@ pub mod Posting
 pub mod Storing
 pub mod Feeding
 pub mod Writing
+pub mod Picturing
 pub mod Commutes
 pub mod Sequence
 pub mod Refusals

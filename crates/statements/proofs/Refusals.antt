@@ -15,13 +15,15 @@ use Rattle.slots.specs.Calls.{holdsAny, leaves, writeReport}
 use Rattle.slots.specs.declared.record.Slot.{Slot}
 use Rattle.slots.proofs.Grounds.{store-done, write-busy, write-done}
 use Rattle.board.specs.Record.{wellFormed}
-use Rattle.board.specs.Calls.{writeCall}
+use Rattle.board.specs.Calls.{Written, writeCall}
+use Rattle.board.specs.Picturing.{importCall}
+use Rattle.board.proofs.Imports.{export-board, import-stays}
 use Rattle.board.specs.Feeding.{Line, line, feedCall}
 use Rattle.board.proofs.Forms.{good-of, none-waits}
 use Rattle.board.proofs.Feeds.{refused-feed}
-use Rattle.board.proofs.Refused.{post-given, store-stays, write-stays, run-halts}
+use Rattle.board.proofs.Refused.{post-given, Stays, store-stays, write-stays, run-halts}
 use Rattle.board.proofs.Replies.{store-by, write-by}
-use Rattle.statements.specs.Paper.{post, store, write, run, feed}
+use Rattle.statements.specs.Paper.{post, store, write, run, feed, import, export}
 use Rattle.statements.specs.World.{World, world, Called, called}
 use Rattle.statements.specs.Refusals.{RefusedStays, unchanged, EmptyStore, EmptyWrites}
 use Rattle.statements.proofs.Abstract.{machineOf, onto}
@@ -32,15 +34,11 @@ use Rattle.statements.proofs.Writing.{toDisplay, toVirtual}
 abbrev Refused : World → Called → Type 0
 Refused w c = (c .report .number ≡ 0 → ⊥) → c .after ≡ w
 
-write-refused : (w : World) (number offset : ℕ) (bytes : List ℕ) (t : Bool)
-    → Refused w
-    (cond t (toDisplay w (writeCall number offset bytes (w .display) (w .board))) (toVirtual w (writeCall number offset bytes (w .virt) (w .board))))
-write-refused w number offset bytes true n =
-    let s = write-stays number offset bytes (w .display) (w .board) n in
-    (λ i. world (s .0 i) (w .list) (s .1 i) (w .virt))
-write-refused w number offset bytes false n =
-    let s = write-stays number offset bytes (w .virt) (w .board) n in
-    (λ i. world (s .0 i) (w .list) (w .display) (s .1 i))
+-- a call that is lent the named buffer
+lent-refused : (w : World) (call : List ℕ → Written) → ((buffer : List ℕ) → Stays (w .board) buffer (call buffer)) → (t : Bool)
+    → Refused w (cond t (toDisplay w (call (w .display))) (toVirtual w (call (w .virt))))
+lent-refused w call stays true n = let s = stays (w .display) n in (λ i. world (s .0 i) (w .list) (s .1 i) (w .virt))
+lent-refused w call stays false n = let s = stays (w .virt) n in (λ i. world (s .0 i) (w .list) (w .display) (s .1 i))
 
 pub refused-stays : RefusedStays
 unfolding called
@@ -48,7 +46,12 @@ refused-stays (post start count) w n k = ap (λ b. world b (w .list) (w .display
 refused-stays (store first bytes) w n k =
     let s = store-stays (w .list) first bytes (w .board) n in
     (λ i. world (s .0 i) (s .1 i) (w .display) (w .virt))
-refused-stays (write number offset bytes) w n k = write-refused w number offset bytes (eqb number 0) n
+refused-stays (write number offset bytes) w n k =
+    lent-refused w (λ buffer. writeCall number offset bytes buffer (w .board)) (λ buffer. write-stays number offset bytes buffer (w .board)) (eqb number 0) n
+refused-stays (import number picture) w n k =
+    lent-refused w (λ buffer. importCall number picture buffer (w .board)) (λ buffer. import-stays number picture buffer (w .board)) (eqb number 0) n
+refused-stays (export number output) w n k =
+    ap (λ b. world b (w .list) (w .display) (w .virt)) (export-board number (cond (eqb number 0) (w .display) (w .virt)) output (w .board))
 refused-stays (run budget) w n k = ap (onto w) (run-halts budget (w .list) (machineOf w) n k)
 refused-stays (feed f piece) w n k =
     let b = w .board in

@@ -15,7 +15,7 @@ use Rattle.slots.specs.Slots.{sizesOk, slotWith, emptySlot, slotOf}
 use Rattle.slots.specs.declared.record.Sizes.{Sizes}
 use Rattle.slots.specs.declared.record.Slot.{Slot}
 use Rattle.board.specs.declared.record.Board.{Board}
-use Rattle.statements.specs.Paper.{Call, post, store, write, run, feed, Item, posted, window, Paper, paper, stepsOn, fed, stepsToEmpty}
+use Rattle.statements.specs.Paper.{Call, post, store, write, run, feed, import, export, Item, posted, window, Paper, paper, stepsOn, fed, stepsToEmpty}
 use Rattle.statements.specs.World.{World, world, Called, answersTo}
 
 -- The spans of the queue's lists; the slot of the first of some spans, free where there is none; and those behind it.
@@ -57,6 +57,8 @@ BadFeed z (store first bytes) = ⊥
 BadFeed z (write number offset bytes) = ⊥
 BadFeed z (run budget) = ⊥
 BadFeed z (feed f piece) = feedOk z f ≡ false
+BadFeed z (import number picture) = ⊥
+BadFeed z (export number output) = ⊥
 
 pub record NotMalformed (c : Call) (w : World) (a : Called) : Type 0 where
   pub well-formed : wellFormed (w .board) ≡ true
@@ -73,6 +75,8 @@ Reports extent (post start count) c p = Unit {0}
 Reports extent (store first bytes) c p = Unit {0}
 Reports extent (write number offset bytes) c p = Unit {0}
 Reports extent (feed f piece) c p = Unit {0}
+Reports extent (import number picture) c p = Unit {0}
+Reports extent (export number output) c p = Unit {0}
 Reports extent (run budget) c p =
     Empties extent (stepsToEmpty extent p) p × (c .report .number ≡ 0 → c .report .steps ≡ min budget (stepsToEmpty extent p))
 

@@ -10,8 +10,8 @@ use Rattle.answers.specs.Reports.{Report, report}
 use Rattle.commands.specs.Steps.{scene, freshEngine}
 use Rattle.board.specs.Calls.{sizes}
 use Rattle.pramolyt.specs.Image.{boardOf}
-use Rattle.pramolyt.specs.Exports.{makeImage, postImage, storeImage, writeImage, runImage, feedImage}
-use Rattle.statements.specs.Paper.{Call, post, store, write, run, feed, paper}
+use Rattle.pramolyt.specs.Exports.{makeImage, postImage, storeImage, writeImage, runImage, feedImage, exportImage, importImage}
+use Rattle.statements.specs.Paper.{Call, post, store, write, run, feed, import, export, paper}
 use Rattle.statements.specs.World.{World, world, Called}
 use Rattle.statements.specs.Demand.{Throughout}
 
@@ -48,6 +48,14 @@ returned (run budget) k =
 returned (feed f piece) k =
     let r = feedImage (k .words) f (k .list) piece in
     record { report = report (r .number) 0 0; after = caller (r .words) (r .memory) (k .display) (k .virt) }
+returned (import number picture) k =
+    let d = importImage (k .words) number picture (k .display) in
+    let v = importImage (k .words) number picture (k .virt) in
+    cond (eqb number 0) (record { report = report (d .number) 0 0; after = caller (d .words) (k .list) (d .memory) (k .virt) })
+    (record { report = report (v .number) 0 0; after = caller (v .words) (k .list) (k .display) (v .memory) })
+returned (export number output) k =
+    let r = exportImage (k .words) number (cond (eqb number 0) (k .display) (k .virt)) output in
+    record { report = report (r .number) 0 0; after = caller (r .words) (k .list) (k .display) (k .virt) }
 
 -- The same with the record that the words are.
 abbrev pub worldIn : Caller → World

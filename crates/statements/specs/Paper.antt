@@ -9,18 +9,22 @@ use Rattle.geometry.specs.declared.Extent.{Extent}
 use Rattle.lists.specs.Spans.{spanOf}
 use Rattle.lists.specs.Cursors.{entriesFrom}
 use Rattle.lists.specs.declared.spans.Span.{Span}
+use Rattle.pictures.specs.Pictures.{pixelsOf}
 use Rattle.feeds.specs.Feeds.{joined, completed}
 use Rattle.feeds.specs.declared.Feed.{Feed}
 use Rattle.commands.specs.Steps.{Scene, scene, visitOf, takenOf}
 use Rattle.commands.specs.Wholes.{stepsOf}
 
--- A call's "arguments other than the board record and the lent memories".
+-- A call's "arguments other than the board record and the lent memories". The output that an export is lent is none of the board's
+-- memories, and stands here.
 pub data Call : Type 0 where
   post : ℕ → ℕ → Call
   store : ℕ → List ℕ → Call
   write : ℕ → ℕ → List ℕ → Call
   run : ℕ → Call
   feed : Feed → List ℕ → Call
+  import : ℕ → List ℕ → Call
+  export : ℕ → List ℕ → Call
 
 -- What waits in the queue: a list, with the span that it was posted with and what is left of its copy; or a window write,
 -- with buffer, offset and bytes.
@@ -76,7 +80,8 @@ abbrev pub storedOn : ℕ → List ℕ → Paper → Paper
 storedOn first bytes p = paper (p .drawing) (putInto (p .list) (5 * first) bytes) (p .queue)
 
 -- "It is fed each call's arguments .. whether the answer was 0, and the steps a run reported." "an
--- accepted piece counts as a store of the entries it completes, whatever feed record it is given" (02, R-5).
+-- accepted piece counts as a store of the entries it completes, whatever feed record it is given" (02, R-5). "an accepted import
+-- is a window write" (02, R-9), of all pixels; an export leaves the paper board as it was.
 unfoldable pub fed : Extent → Call → Bool → ℕ → Paper → Paper
 fed extent (post start count) true steps p =
     paper (p .drawing) (p .list) (p .queue ++ (posted (spanOf start count) (entriesFrom (p .list) start count) ∷ []))
@@ -89,6 +94,10 @@ fed extent (write number offset bytes) false steps p = p
 fed extent (run budget) answered steps p = stepsOn steps extent p
 fed extent (feed f piece) true steps p = storedOn (f .next) (completed (joined f piece)) p
 fed extent (feed f piece) false steps p = p
+fed extent (import number picture) true steps p =
+    flushed (p .drawing) (p .list) (p .queue ++ (window number 0 (pixelsOf (extent .width) (extent .height) picture) ∷ []))
+fed extent (import number picture) false steps p = p
+fed extent (export number output) answered steps p = p
 
 -- The entries of the queue's lists, in the order in which they run, and the steps that would empty the queue.
 unfoldable pub queued : List Item → List Entry

@@ -8,8 +8,9 @@ use Rattle.board.specs.Steps.{machine}
 use Rattle.board.specs.Runs.{runCall}
 use Rattle.board.specs.Calls.{postCall, storeCall, writeCall}
 use Rattle.board.specs.Feeding.{feedCall}
+use Rattle.board.specs.Picturing.{exportCall, importCall}
 use Rattle.board.specs.declared.record.Board.{Board}
-use Rattle.statements.specs.Paper.{Call, post, store, write, run, feed}
+use Rattle.statements.specs.Paper.{Call, post, store, write, run, feed, import, export}
 
 pub record World : Type 0 where
   pub board : Board
@@ -24,7 +25,8 @@ pub record Called : Type 0 where
   pub report : Report
   pub after : World
 
--- "Post and store are lent the list memory, a window write the named buffer, a run all three." A feed is lent the list memory.
+-- "Post and store are lent the list memory, a window write the named buffer, a run all three." A feed is lent the list memory, an import
+-- and an export the named buffer.
 unfoldable pub called : Call → World → Called
 called (post start count) w =
     let r = postCall (w .list) start count (w .board) in
@@ -43,6 +45,14 @@ called (run budget) w =
 called (feed f piece) w =
     let r = feedCall (w .list) f piece (w .board) in
     record { report = r .report; after = world (r .after .board) (r .after .memory) (w .display) (w .virt) }
+called (import number picture) w =
+    let d = importCall number picture (w .display) (w .board) in
+    let v = importCall number picture (w .virt) (w .board) in
+    cond (eqb number 0) (record { report = d .report; after = world (d .board) (w .list) (d .memory) (w .virt) })
+    (record { report = v .report; after = world (v .board) (w .list) (w .display) (v .memory) })
+called (export number output) w =
+    let r = exportCall number (cond (eqb number 0) (w .display) (w .virt)) output (w .board) in
+    record { report = r .report; after = world (r .board) (w .list) (w .display) (w .virt) }
 
 -- What the calls of a sequence answer, each on what the last one left.
 unfoldable pub answersTo : List Call → World → List Called

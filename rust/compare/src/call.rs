@@ -4,24 +4,28 @@ use reference::Feed;
 use std::fmt;
 
 /// The names of the calls, by [`Call::kind`].
-pub const CALLS: [&str; 7] = [
+pub const CALLS: [&str; 9] = [
     "make",
     "post",
     "store",
     "feed start",
     "feed",
     "window write",
+    "export",
+    "import",
     "run",
 ];
 
 /// The answers that documents 01 and 02 allow each call, by [`Call::kind`].
-pub const ALLOWED: [&[usize]; 7] = [
+pub const ALLOWED: [&[usize]; 9] = [
     &[0, 2],
     &[0, 1, 2, 3, 4, 5, 6],
     &[0, 1, 2, 4, 8],
     &[0],
     &[0, 1, 2, 4, 8],
     &[0, 1, 2, 4, 7],
+    &[0, 1, 2, 4],
+    &[0, 1, 2, 7, 11],
     &[0, 1, 2, 9],
 ];
 
@@ -71,6 +75,20 @@ pub enum Call {
         /// What is written.
         bytes: Vec<u8>,
     },
+    /// Export a buffer.
+    Export {
+        /// The buffer's number.
+        number: u64,
+        /// The output, as lent.
+        output: Vec<u8>,
+    },
+    /// Import a picture.
+    Import {
+        /// The buffer's number.
+        number: u64,
+        /// The picture.
+        picture: Vec<u8>,
+    },
     /// Run.
     Run {
         /// At most so many steps.
@@ -88,7 +106,9 @@ impl Call {
             Call::FeedStart { .. } => 3,
             Call::Feed { .. } => 4,
             Call::WindowWrite { .. } => 5,
-            Call::Run { .. } => 6,
+            Call::Export { .. } => 6,
+            Call::Import { .. } => 7,
+            Call::Run { .. } => 8,
         }
     }
 }
@@ -111,6 +131,12 @@ impl fmt::Display for Call {
                 offset,
                 bytes,
             } => write!(f, " number {number}, offset {offset}, bytes {bytes:02X?}"),
+            Call::Export { number, output } => {
+                write!(f, " number {number}, {} bytes of output", output.len())
+            }
+            Call::Import { number, picture } => {
+                write!(f, " number {number}, picture {}", picture.escape_ascii())
+            }
             Call::Run { budget } => write!(f, " budget {budget}"),
         }
     }

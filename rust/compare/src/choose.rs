@@ -2,7 +2,9 @@
 
 use crate::call::Call;
 use crate::feeds::{self, Line};
+use crate::headers;
 use crate::lists::{Size, list};
+use crate::pictures;
 use crate::random::Random;
 use crate::sides::Reference;
 use reference::Record;
@@ -18,9 +20,9 @@ const DEAR: u64 = 80_000;
 pub fn call(random: &mut Random, side: &Reference, stored: Span, line: &mut Line) -> Call {
     let record = &side.record;
     let weights = match (record.active_taken, record.pending_taken) {
-        (0, _) => [1, 12, 6, 2, 8, 6, 2],
-        (_, 0) => [1, 6, 5, 1, 6, 2, 14],
-        (_, _) => [1, 2, 4, 1, 5, 2, 14],
+        (0, _) => [1, 12, 6, 2, 8, 6, 2, 4, 2],
+        (_, 0) => [1, 6, 5, 1, 6, 2, 1, 1, 14],
+        (_, _) => [1, 2, 4, 1, 5, 2, 1, 1, 14],
     };
     match random.weighted(&weights) {
         0 => make(random),
@@ -29,6 +31,8 @@ pub fn call(random: &mut Random, side: &Reference, stored: Span, line: &mut Line
         3 => feeds::start(random, record),
         4 => line.feed(random, record),
         5 => window_write(random, record),
+        6 => export(random, side),
+        7 => import(random, side),
         _ => Call::Run {
             budget: budget(random, side),
         },
@@ -110,11 +114,7 @@ fn store(random: &mut Random, record: &Record) -> Call {
 
 fn window_write(random: &mut Random, record: &Record) -> Call {
     let len = u64::from(record.width) * u64::from(record.height);
-    let number = match random.weighted(&[20, 20, 1, 1]) {
-        2 => 2,
-        3 => extreme(random, 1),
-        number => number as u64,
-    };
+    let number = pictures::number(random);
     let (offset, count) = match random.weighted(&[40, 2, 1, 4, 1]) {
         0 => inside(random, len),
         1 => (random.below(len + 2), random.below(40)),
@@ -127,6 +127,33 @@ fn window_write(random: &mut Random, record: &Record) -> Call {
         offset,
         bytes: random.bytes(count as usize),
     }
+}
+
+fn export(random: &mut Random, side: &Reference) -> Call {
+    let (size, pixels) = picture_size(side);
+    let room = pictures::room(random, size, pixels);
+    Call::Export {
+        number: pictures::number(random),
+        output: random.bytes(room),
+    }
+}
+
+fn import(random: &mut Random, side: &Reference) -> Call {
+    let (size, pixels) = picture_size(side);
+    let raster = random.bytes(pixels);
+    Call::Import {
+        number: pictures::number(random),
+        picture: headers::made(random, size, &raster).bytes,
+    }
+}
+
+/// Width and height, and the pixels of the display as it is lent.
+fn picture_size(side: &Reference) -> ((u64, u64), usize) {
+    let Reference {
+        record, memories, ..
+    } = side;
+    let size = (record.width.into(), record.height.into());
+    (size, memories.display.len())
 }
 
 /// A budget that cuts a command anywhere, ends just before, at or after the last step, or is huge.

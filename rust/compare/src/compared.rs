@@ -1,5 +1,6 @@
-//! What the two kinds of comparison share: sequences of a board's calls ([`Tally`](crate::tally::Tally)), and list files taken
-//! from one edition to the other ([`Conversions`](crate::packing::Conversions)).
+//! What the three kinds of comparison share: sequences of a board's calls ([`Tally`](crate::tally::Tally)), list files taken from
+//! one edition to the other ([`Conversions`](crate::packing::Conversions)), and pictures
+//! ([`Pictures`](crate::pictures::Pictures)).
 
 /// A kind of comparison, as the counts of what came up in it.
 pub trait Compared: Default + Send + 'static {

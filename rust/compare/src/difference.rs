@@ -24,6 +24,8 @@ pub fn of_sides(engine: &Engine, reference: &Reference) -> Result<(), String> {
             "the feed record: the engine has {feed:02X?}, the reference {other:02X?}"
         ));
     }
+    let output = |at| format!("output byte {at}");
+    of_bytes(&engine.output, &reference.output, output, "reference")?;
     let (ours, theirs) = (&engine.memories, &reference.memories);
     let width = engine.board.width();
     of_list(&ours.list, &theirs.list, "reference")?;

@@ -1,13 +1,17 @@
-//! compare                        the fixed set: sequences and files of fixed seeds, and whether all that has to come up did
+//! compare                        the fixed set: sequences, files and pictures of fixed seeds, and whether all that has to come
+//!                                up did
 //! compare long SEED CALLS        about so many calls from another seed
 //! compare files SEED CONVERSIONS the same for list files
+//! compare pictures SEED CALLS    the same for pictures
 //! compare replay SEED            one sequence, call by call
 //! compare file SEED              one list file
+//! compare picture SEED           one picture
 //!
-//! All but the last two run on two threads.
+//! All but the last three run on two threads.
 
 use compare::compared::Compared;
 use compare::packing::Conversions;
+use compare::pictures::Pictures;
 use compare::random::Random;
 use compare::tally::Tally;
 use std::process::ExitCode;
@@ -19,6 +23,7 @@ use std::time::Instant;
 const SEED: u64 = 1;
 const SEQUENCES: u64 = 50_000;
 const FILES: u64 = 50_000;
+const PICTURES: u64 = 50_000;
 
 const THREADS: u64 = 2;
 
@@ -33,7 +38,8 @@ fn main() -> ExitCode {
         Some(false) => ExitCode::FAILURE,
         None => {
             eprintln!(
-                "usage: compare [long SEED CALLS | files SEED CONVERSIONS | replay SEED | file SEED]"
+                "usage: compare [long SEED CALLS | files SEED CONVERSIONS | pictures SEED CALLS | replay SEED | file SEED | \
+                 picture SEED]"
             );
             ExitCode::from(2)
         }
@@ -46,8 +52,10 @@ fn command(words: &[&str]) -> Option<bool> {
         [] => Some(fixed_set()),
         ["long", seed, calls] => Some(long::<Tally>(number(seed)?, number(calls)?)),
         ["files", seed, calls] => Some(long::<Conversions>(number(seed)?, number(calls)?)),
+        ["pictures", seed, calls] => Some(long::<Pictures>(number(seed)?, number(calls)?)),
         ["replay", seed] => Some(replay::<Tally>(number(seed)?)),
         ["file", seed] => Some(replay::<Conversions>(number(seed)?)),
+        ["picture", seed] => Some(replay::<Pictures>(number(seed)?)),
         _ => None,
     }
 }
@@ -60,12 +68,12 @@ fn number(word: &str) -> Option<u64> {
     }
 }
 
-/// The seed of one sequence or file.
+/// The seed of one sequence, file or picture.
 fn own_seed(seed: u64, index: u64) -> u64 {
     Random::new(Random::new(seed).word() ^ index).word()
 }
 
-/// Plays one sequence or file of a seed and prints the difference that it finds.
+/// Plays one sequence, file or picture of a seed and prints the difference that it finds.
 fn play_one<C: Compared>(seed: u64, index: u64, counts: &mut C) -> bool {
     let own = own_seed(seed, index);
     let outcome = counts.play(own, false);
@@ -79,11 +87,11 @@ fn play_one<C: Compared>(seed: u64, index: u64, counts: &mut C) -> bool {
 fn fixed_set() -> bool {
     let sequences = fixed::<Tally>(SEQUENCES);
     let files = fixed::<Conversions>(FILES);
-    let failed = sequences.failed + files.failed;
-    println!(
-        "{} passed, {failed} failed",
-        sequences.passed + files.passed
-    );
+    let pictures = fixed::<Pictures>(PICTURES);
+    let kinds = [sequences, files, pictures];
+    let passed: usize = kinds.iter().map(|checks| checks.passed).sum();
+    let failed: usize = kinds.iter().map(|checks| checks.failed).sum();
+    println!("{passed} passed, {failed} failed");
     failed == 0
 }
 
@@ -93,7 +101,7 @@ struct Checks {
     failed: usize,
 }
 
-/// So many sequences or files of the fixed seed, and whether all that has to come up did.
+/// So many sequences, files or pictures of the fixed seed, and whether all that has to come up did.
 fn fixed<C: Compared>(number: u64) -> Checks {
     println!("seed {SEED}, {number} {}s", C::UNIT);
     let (counts, equal) = play_while::<C>(SEED, |index, _| index < number);
@@ -128,7 +136,7 @@ fn long<C: Compared>(seed: u64, calls: u64) -> bool {
     equal
 }
 
-/// Plays the sequences or files of a seed, every thread while this holds of its next one and its counts, and no thread found a
+/// Plays the sequences, files or pictures of a seed, every thread while this holds of its next one and its counts, and no thread found a
 /// difference. The counts, and whether none was found.
 fn play_while<C: Compared>(seed: u64, goes_on: impl Fn(u64, &C) -> bool + Sync) -> (C, bool) {
     let stop = AtomicBool::new(false);

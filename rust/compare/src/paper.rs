@@ -39,7 +39,7 @@ pub fn follow(
         return Err(format!("{} steps, {due} by the paper board", report.steps));
     }
     match call {
-        Call::Make { .. } | Call::FeedStart { .. } => {}
+        Call::Make { .. } | Call::FeedStart { .. } | Call::Export { .. } => {}
         Call::Post { start, count } => paper.post(*start, *count, done),
         Call::Store { first, bytes } => paper.store(*first, bytes, done),
         Call::Feed { feed, piece } => paper.feed(feed, piece, done),
@@ -48,6 +48,7 @@ pub fn follow(
             offset,
             bytes,
         } => paper.window_write(*number, *offset, bytes, done),
+        Call::Import { number, picture } => paper.import(*number, picture, done),
         Call::Run { .. } => {
             paper.run(report.steps);
         }

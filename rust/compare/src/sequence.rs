@@ -67,12 +67,14 @@ impl Sequence<'_> {
             engine: Engine {
                 board: Board::from_words(record.words()),
                 feed: engine_feed(&feed),
+                output: Vec::new(),
                 memories: memories.clone(),
             },
             paper: (kind == Kind::Honest).then(|| paper::begin(width, height, &memories)),
             reference: Reference {
                 record,
                 feed,
+                output: Vec::new(),
                 memories,
             },
             stored: (0, 1),
@@ -140,6 +142,7 @@ impl Sequence<'_> {
         self.engine = Engine {
             board: Board::from_words(self.reference.record.words()),
             feed: engine_feed(&self.reference.feed),
+            output: self.reference.output.clone(),
             memories: self.reference.memories.clone(),
         };
     }

@@ -33,6 +33,8 @@ pub struct Engine {
     pub board: Board,
     /// The feed record that its last feed left.
     pub feed: pramolyt::Feed,
+    /// The output that its last export left.
+    pub output: Vec<u8>,
     /// Its memories.
     pub memories: Memories,
 }
@@ -43,6 +45,7 @@ impl Engine {
         let Engine {
             board,
             feed,
+            output,
             memories,
         } = self;
         let answer = match call {
@@ -73,6 +76,17 @@ impl Engine {
                 let lent = memories.buffer(*number);
                 board.window_write(size(*number), size(*offset), bytes, lent)
             }
+            Call::Export {
+                number,
+                output: lent,
+            } => {
+                output.clone_from(lent);
+                let buffer = memories.buffer(*number);
+                return export_report(board.export(size(*number), buffer, output));
+            }
+            Call::Import { number, picture } => {
+                board.import(size(*number), picture, memories.buffer(*number))
+            }
             Call::Run { budget } => {
                 let Memories {
                     list,
@@ -82,7 +96,7 @@ impl Engine {
                 board.run(*budget, list, display, virt)
             }
         };
-        report(answer)
+        engine_report(answer)
     }
 }
 
@@ -96,11 +110,23 @@ fn size(number: u64) -> usize {
     number as usize
 }
 
-fn report(answer: Answer) -> Report {
+/// What the engine answered.
+pub fn engine_report(answer: Answer) -> Report {
     Report {
-        number: answer.number(),
         place: answer.place(),
         steps: answer.steps(),
+        ..Report::plain(answer.number())
+    }
+}
+
+/// What the engine's export answered.
+pub fn export_report(answer: Result<usize, Answer>) -> Report {
+    match answer {
+        Ok(written) => Report {
+            written: written as u64,
+            ..Report::plain(0)
+        },
+        Err(refusal) => engine_report(refusal),
     }
 }
 
@@ -111,6 +137,8 @@ pub struct Reference {
     pub record: Record,
     /// The feed record that its last feed left.
     pub feed: Feed,
+    /// The output that its last export left.
+    pub output: Vec<u8>,
     /// Its memories.
     pub memories: Memories,
 }
@@ -121,6 +149,7 @@ impl Reference {
         let Reference {
             record,
             feed,
+            output,
             memories,
         } = self;
         match call {
@@ -152,6 +181,16 @@ impl Reference {
             } => {
                 let lent = memories.buffer(*number);
                 reference::window_write(record, *number, *offset, bytes, lent)
+            }
+            Call::Export {
+                number,
+                output: lent,
+            } => {
+                output.clone_from(lent);
+                reference::export(record, *number, memories.buffer(*number), output)
+            }
+            Call::Import { number, picture } => {
+                reference::import(record, *number, picture, memories.buffer(*number))
             }
             Call::Run { budget } => {
                 let Memories {
@@ -223,6 +262,7 @@ mod tests {
             let mut side = Reference {
                 record: anywhere(&mut random, Record::fresh(8, 4, 12)),
                 feed: Feed::start(0),
+                output: Vec::new(),
                 memories: Memories {
                     list: list(&mut random, size, 12),
                     display: vec![0; 32],

@@ -48,7 +48,7 @@ const LONG: u64 = 40_000;
 #[derive(Default)]
 pub struct Tally {
     sequences: [u64; KINDS.len()],
-    answers: [[u64; 10]; CALLS.len()],
+    answers: [[u64; 12]; CALLS.len()],
     steps: u64,
     /// The steps of the longest run.
     longest: u64,
@@ -256,7 +256,7 @@ impl Compared for Tally {
             println!("{count} {name} sequences");
         }
         print!("{:<13}", "answer");
-        (0..10).for_each(|number| print!("{number:>10}"));
+        (0..12).for_each(|number| print!("{number:>10}"));
         println!();
         for (name, counts) in CALLS.iter().zip(&self.answers) {
             print!("{name:<13}");

@@ -2,12 +2,17 @@
 //! lines.
 //!
 //! It shows all that there is to using the library: make a board, own its three memories, write a font into the virtual
-//! buffer, store a display list into list memory, post it, and run it. `examples/c/cancelled_call.c` is the same in C.
+//! buffer, store a display list into list memory, post it, and run it. With a file name as its argument it also writes the
+//! cancelled call into that file, as a picture in binary PGM. `examples/c/cancelled_call.c` is the same in C.
+
+use std::error::Error;
+use std::ffi::OsStr;
+use std::{env, fs};
 
 use pramolyt::list::{
     ENTRY_BYTES, Entry, Flags, Opcode, RasterCode, Register, command, point, size,
 };
-use pramolyt::{Answer, Board, VIRTUAL};
+use pramolyt::{Answer, Board, DISPLAY, VIRTUAL, picture_max};
 
 const WIDTH: usize = 75;
 const HEIGHT: usize = 18;
@@ -138,9 +143,17 @@ impl Panel {
             println!("|{row}|");
         }
     }
+
+    /// Writes the display as a picture into a file.
+    fn write_picture(&mut self, name: &OsStr) -> Result<(), Box<dyn Error>> {
+        let mut picture = [0; picture_max(WIDTH, HEIGHT)];
+        let written = self.board.export(DISPLAY, &self.display, &mut picture)?;
+        fs::write(name, &picture[..written])?;
+        Ok(())
+    }
 }
 
-fn main() -> Result<(), Answer> {
+fn main() -> Result<(), Box<dyn Error>> {
     let mut panel = Panel::new()?;
     panel.write_font()?;
     panel.draw("the call", &call())?;
@@ -148,6 +161,9 @@ fn main() -> Result<(), Answer> {
     let before = panel.display;
     panel.draw("the bar", &bar())?;
     panel.print();
+    if let Some(name) = env::args_os().nth(1) {
+        panel.write_picture(&name)?;
+    }
     panel.draw("the bar again", &bar())?;
     assert!(panel.display == before, "the call is not as before");
     println!("the call stands as before");

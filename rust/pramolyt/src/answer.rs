@@ -19,7 +19,8 @@ pub enum Answer {
     WrongSize,
     /// 3: a list of no entries.
     NoEntries,
-    /// 4: a span passes the end of its memory; of a feed, the entries that the piece completes do.
+    /// 4: a span passes the end of its memory; of a feed, the entries that the piece completes do; of an export, the output is
+    /// shorter than the picture.
     PastTheEnd,
     /// 5: both slots are taken.
     SlotsFull,
@@ -28,7 +29,7 @@ pub enum Answer {
         /// The first one, counted over the whole list memory.
         place: u64,
     },
-    /// 7: a window write while a slot is taken.
+    /// 7: a window write or an import while a slot is taken.
     Busy,
     /// 8: a store touches, or a feed's piece completes, an entry of a list in a slot.
     EntryHeld,
@@ -37,6 +38,8 @@ pub enum Answer {
         /// The steps before it, which stand.
         steps: u64,
     },
+    /// 11: the input of an import is not one picture of the board's size, or has bytes after it.
+    NotAPicture,
 }
 
 impl Answer {
@@ -53,11 +56,12 @@ impl Answer {
             (7, 0, 0) => Answer::Busy,
             (8, 0, 0) => Answer::EntryHeld,
             (9, 0, steps) => Answer::IllegalFetch { steps },
+            (11, 0, 0) => Answer::NotAPicture,
             _ => unreachable!("answer {number}, place {place}, steps {steps}"),
         }
     }
 
-    /// The paper's number, 0 to 9.
+    /// The paper's number, 0 to 9 or 11.
     pub fn number(self) -> u32 {
         match self {
             Answer::Done { .. } => 0,
@@ -70,6 +74,7 @@ impl Answer {
             Answer::Busy => 7,
             Answer::EntryHeld => 8,
             Answer::IllegalFetch { .. } => 9,
+            Answer::NotAPicture => 11,
         }
     }
 
@@ -113,7 +118,10 @@ impl fmt::Display for Answer {
                 "a size is wrong: the board's, a memory's, the buffer number, or bytes that are no whole entries"
             ),
             Answer::NoEntries => write!(f, "the list has no entries"),
-            Answer::PastTheEnd => write!(f, "the span passes the end of its memory"),
+            Answer::PastTheEnd => write!(
+                f,
+                "the span passes the end of its memory, or the output is too short for the picture"
+            ),
             Answer::SlotsFull => {
                 write!(f, "two lists are waiting already; run one to its end first")
             }
@@ -122,7 +130,7 @@ impl fmt::Display for Answer {
             }
             Answer::Busy => write!(
                 f,
-                "a list is still to be drawn; run it to its end before writing a buffer"
+                "a list is still to be drawn; run it to its end before writing a buffer or importing a picture"
             ),
             Answer::EntryHeld => write!(
                 f,
@@ -134,6 +142,10 @@ impl fmt::Display for Answer {
                     "an illegal entry stopped the run after {steps} steps; list memory or the record was changed since the post"
                 )
             }
+            Answer::NotAPicture => write!(
+                f,
+                "the input is not one binary PGM picture of the board's size with greatest grey 255, or has bytes after it"
+            ),
         }
     }
 }

@@ -53,6 +53,27 @@ unsafe extern "C" {
         buffer_len: usize,
     ) -> u32;
 
+    #[link_name = "pramolyt_export_r1"]
+    pub fn pramolyt_export(
+        board: *mut Board,
+        written: *mut u64,
+        number: usize,
+        buffer: *const u8,
+        buffer_len: usize,
+        output: *mut u8,
+        output_len: usize,
+    ) -> u32;
+
+    #[link_name = "pramolyt_import_r1"]
+    pub fn pramolyt_import(
+        board: *mut Board,
+        number: usize,
+        picture: *const u8,
+        picture_len: usize,
+        buffer: *mut u8,
+        buffer_len: usize,
+    ) -> u32;
+
     #[link_name = "pramolyt_run_r1"]
     pub fn pramolyt_run(
         board: *mut Board,

@@ -24,6 +24,8 @@
 //! A list that comes in pieces, cut anywhere, goes into list memory by [`Board::feed`], with a [`Feed`] that holds the bytes of
 //! an entry not yet whole.
 //!
+//! [`Board::export`] writes a buffer as a picture in binary PGM, and [`Board::import`] reads one.
+//!
 //! [`pack`] and [`unpack`] take a list file from one edition to the other and need no board.
 //!
 //! The crate is `no_std`. The library has no state of its own: separate boards may run on separate threads at once.
@@ -41,12 +43,14 @@ mod feed;
 mod ffi;
 pub mod list;
 mod packing;
+mod pictures;
 #[cfg(test)]
 mod tests;
 
 pub use answer::Answer;
 pub use feed::Feed;
 pub use packing::{FileAnswer, list_size, pack, packed_size, unpack};
+pub use pictures::picture_max;
 
 /// The number of the display buffer.
 pub const DISPLAY: usize = 0;

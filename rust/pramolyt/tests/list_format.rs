@@ -5,7 +5,9 @@ use pramolyt::list::{
     Buffer, Direction, ENTRY_BYTES, Entry, Flags, ILLEGAL_WORD, MAX_ENTRIES, MAX_PATTERN_LENGTH,
     MAX_PATTERN_SCALE, MAX_SIDE, Opcode, RasterCode, Register, command, pattern, point, size,
 };
-use pramolyt::{Answer, Board, FileAnswer, list_size, pack, packed_size, unpack};
+use pramolyt::{
+    Answer, Board, DISPLAY, FileAnswer, VIRTUAL, list_size, pack, packed_size, picture_max, unpack,
+};
 use std::fs;
 use std::path::Path;
 
@@ -1055,6 +1057,46 @@ fn the_page_has_the_sizes_of_files() {
     assert_eq!(pack(&list, &mut file), FileAnswer::TooMany);
     assert_eq!(pack(most, &mut file).ok(), Ok(19_124));
     assert_eq!(unpack(&file[..19_124], &mut back).ok(), Ok(20_480));
+}
+
+#[test]
+fn the_page_has_the_bytes_of_a_picture() {
+    let mut panel = Panel::new();
+    let line = command(Opcode::Line, RasterCode::Copy, Flags::SOLID);
+    panel.put(Register::Fore, 7);
+    panel.put(Register::Cmd, line);
+    panel.put(Register::Xy1, point(4, 2));
+    panel.draw();
+    let mut output = [0; picture_max(WIDTH, HEIGHT)];
+    let written = panel.board.export(DISPLAY, &panel.display, &mut output);
+    let picture = &output[..written.expect("an export")];
+    let block = &blocks("## Pictures")[0];
+    let hex = block.lines().map(|line| line.split("    ").next());
+    let bytes = hex.flat_map(|bytes| bytes.expect("bytes").split(' '));
+    let bytes: Vec<u8> = bytes
+        .map(|byte| u8::from_str_radix(byte, 16).expect("a byte"))
+        .collect();
+    assert_eq!((picture, picture.len()), (&bytes[..], 43));
+    let text = section("## Pictures");
+    assert!(text.contains("takes 43 bytes, the\nfirst 11 of them its header"));
+}
+
+#[test]
+fn the_page_says_which_headers_are_read() {
+    let rows = table("## Pictures", "header");
+    assert_eq!(rows.len(), 6);
+    for row in rows {
+        let header = row[0].trim_matches('`').replace("\\n", "\n");
+        let picture = [header.as_bytes(), &[200; 32]].concat();
+        let (made, mut board) = Board::make(16, 2, 1);
+        assert_eq!(made, DONE);
+        let answer = board.import(VIRTUAL, &picture, &mut [0; 32]);
+        let expected = match row[1].starts_with("no picture") {
+            true => Answer::NotAPicture,
+            false => DONE,
+        };
+        assert_eq!(answer, expected, "{header:?}");
+    }
 }
 
 /// Whether a stippled blit draws at bit position (x, 0), with one bit of one byte of row 0 set.

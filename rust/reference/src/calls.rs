@@ -6,22 +6,25 @@ use crate::entries::{entry_at, ENTRY_BYTES};
 use crate::record::{sizes_legal, Record};
 use crate::state::Step;
 
-/// The answer's number, the place of the first illegal entry and the steps done.
-/// "The place is zero but in 6, the step count but in 9 and in a done run".
+/// The answer's number, the place of the first illegal entry, the steps done and the
+/// bytes that an export wrote. "The place is zero but in 6, the step count but in 9 and
+/// in a done run"; the bytes but in a done export.
 #[derive(Clone, Copy, PartialEq, Eq, Debug)]
 pub struct Report {
     pub number: u32,
     pub place: u64,
     pub steps: u64,
+    pub written: u64,
 }
 
 impl Report {
-    /// An answer in which place and steps are zero.
+    /// An answer in which the other numbers are zero.
     pub fn plain(number: u32) -> Report {
         Report {
             number,
             place: 0,
             steps: 0,
+            written: 0,
         }
     }
 }
@@ -178,7 +181,7 @@ pub(crate) fn is_list_memory(record: &Record, list: &[u8]) -> bool {
 }
 
 /// A buffer is "exactly width x height bytes"; else "a lent memory of another size".
-fn is_buffer(record: &Record, buffer: &[u8]) -> bool {
+pub(crate) fn is_buffer(record: &Record, buffer: &[u8]) -> bool {
     buffer.len() == record.width as usize * record.height as usize
 }
 

@@ -107,6 +107,14 @@ impl PaperBoard {
         self.do_front_writes();
     }
 
+    /// "In demand 3 an accepted import is a window write" (document 02, R-9): of the
+    /// whole buffer at offset 0. Nothing follows the pixels of an accepted picture.
+    pub fn import(&mut self, number: u64, picture: &[u8], done: bool) {
+        let pixels = self.display().len();
+        let raster = &picture[picture.len().saturating_sub(pixels)..];
+        self.window_write(number, 0, raster, done);
+    }
+
     /// "in front, it is done at once without a step and leaves."
     fn do_front_writes(&mut self) {
         while let Some(Waiting::Write {

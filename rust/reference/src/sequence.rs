@@ -4,6 +4,7 @@
 use crate::calls::{self, Report};
 use crate::feeds::{self, Feed};
 use crate::paper::PaperBoard;
+use crate::pictures;
 use crate::record::Record;
 
 pub struct Sequence {
@@ -62,15 +63,36 @@ impl Sequence {
     }
 
     pub fn window_write(&mut self, number: u64, offset: u64, bytes: &[u8]) -> Report {
+        let (record, buffer) = self.record_and_buffer(number);
+        let report = calls::window_write(record, number, offset, bytes, buffer);
+        self.paper
+            .window_write(number, offset, bytes, report.number == 0);
+        self.check(report)
+    }
+
+    /// Exports a buffer; the paper board is as it was.
+    pub fn export(&mut self, number: u64, output: &mut [u8]) -> Report {
+        let (record, buffer) = self.record_and_buffer(number);
+        let report = pictures::export(record, number, buffer, output);
+        self.check(report)
+    }
+
+    pub fn import(&mut self, number: u64, picture: &[u8]) -> Report {
+        let (record, buffer) = self.record_and_buffer(number);
+        let report = pictures::import(record, number, picture, buffer);
+        self.paper.import(number, picture, report.number == 0);
+        self.check(report)
+    }
+
+    /// The record, and the buffer that is lent for a number: the display where there is
+    /// none of that number.
+    fn record_and_buffer(&mut self, number: u64) -> (&mut Record, &mut [u8]) {
         let buffer = if number == 1 {
             &mut self.virt
         } else {
             &mut self.display
         };
-        let report = calls::window_write(&mut self.record, number, offset, bytes, buffer);
-        self.paper
-            .window_write(number, offset, bytes, report.number == 0);
-        self.check(report)
+        (&mut self.record, buffer)
     }
 
     /// "A run that answers 0 reports the lesser of its budget and the steps that

@@ -7,6 +7,8 @@
 //! feed HEXBYTES...
 //! post START COUNT
 //! write NUMBER OFFSET HEXBYTES...
+//! export NUMBER LENGTH
+//! import NUMBER HEXBYTES...
 //! run BUDGET
 //! ```
 //!
@@ -14,11 +16,12 @@
 //! sizes, and so does every later make; a refused make begins the 1 by 1 board with
 //! 1 entry. Start begins a feed record, and feed gives it a piece; before any start
 //! it is the one that starts at entry 0. NUMBER is 0 for the display buffer and 1 for
-//! the virtual buffer. Numbers are decimal, or hexadecimal after 0x, below 2^64. HEXBYTES are pairs of
+//! the virtual buffer. Export has an output of LENGTH bytes. Numbers are decimal, or hexadecimal after 0x, below 2^64. HEXBYTES are pairs of
 //! hexadecimal digits, with or without blanks between the pairs; there may be none.
 //! Blank lines and lines starting with # are skipped.
 //!
-//! Each call prints its line number, its name, the answer, the place and the steps.
+//! Each call prints its line number, its name, the answer, the place and the steps; an
+//! export the bytes written too, and the picture in hexadecimal bytes.
 //! The end prints the board record, a field a line, the feed record, both pictures in rows of hexadecimal
 //! bytes, and whether the paper board agreed after every call; status 1 where it did
 //! not. A bad line ends the sequence with a message on standard
@@ -28,6 +31,9 @@ use reference::text::hex_rows;
 use reference::{Feed, Report, Sequence, NAMES};
 use std::io::{Read, Write};
 use std::process::ExitCode;
+
+/// An output of this length has room for every picture, and is not made longer.
+const LONGEST: u64 = 1 << 23;
 
 fn main() -> ExitCode {
     let mut input = Vec::new();
@@ -62,7 +68,7 @@ fn make_calls(input: &str) -> Result<(String, bool), (String, String)> {
         }
         let number = index + 1;
         match make_call(&words, &mut sequence, &mut feed) {
-            Ok(report) => text.push_str(&outcome(number, words[0], report)),
+            Ok(outcome) => text.push_str(&format!("{number} {} {outcome}\n", words[0])),
             Err(message) => return Err((text, format!("line {number}: {message}"))),
         }
         let found = sequence.as_ref().and_then(Sequence::fault);
@@ -79,12 +85,12 @@ fn make_calls(input: &str) -> Result<(String, bool), (String, String)> {
     Ok((text, fault.is_none()))
 }
 
-/// Makes the call of one line.
+/// Makes the call of one line; what it prints.
 fn make_call(
     words: &[&str],
     sequence: &mut Option<Sequence>,
     feed: &mut Feed,
-) -> Result<Report, String> {
+) -> Result<String, String> {
     let (call, arguments) = (words[0], &words[1..]);
     if call == "make" {
         let ([width, height, entries], []) = numbers(call, arguments)? else {
@@ -92,42 +98,59 @@ fn make_call(
         };
         let (report, made) = Sequence::make(width, height, entries);
         *sequence = Some(made);
-        return Ok(report);
+        return Ok(outcome(report));
     }
-    if !["store", "start", "feed", "post", "write", "run"].contains(&call) {
+    let calls = [
+        "store", "start", "feed", "post", "write", "export", "import", "run",
+    ];
+    if !calls.contains(&call) {
         return Err(format!("no call is named {call:?}"));
     }
     let board = sequence.as_mut().ok_or("the first call is make")?;
-    match call {
+    let report = match call {
         "store" => {
             let ([first], bytes) = numbers(call, arguments)?;
-            Ok(board.store(first, &hex_bytes(bytes)?))
+            board.store(first, &hex_bytes(bytes)?)
         }
         "start" => {
             let ([entry], []) = numbers(call, arguments)? else {
                 return Err("start takes one number: entry".to_string());
             };
             *feed = Feed::start(entry);
-            Ok(Report::plain(0))
+            Report::plain(0)
         }
-        "feed" => Ok(board.feed(feed, &hex_bytes(arguments)?)),
+        "feed" => board.feed(feed, &hex_bytes(arguments)?),
         "write" => {
             let ([number, offset], bytes) = numbers(call, arguments)?;
-            Ok(board.window_write(number, offset, &hex_bytes(bytes)?))
+            board.window_write(number, offset, &hex_bytes(bytes)?)
+        }
+        "export" => {
+            let ([number, length], []) = numbers(call, arguments)? else {
+                return Err("export takes two numbers: number, length".to_string());
+            };
+            let mut output = vec![0; length.min(LONGEST) as usize];
+            let report = board.export(number, &mut output);
+            let picture = &output[..report.written as usize];
+            return Ok(export_outcome(report, picture));
+        }
+        "import" => {
+            let ([number], picture) = numbers(call, arguments)?;
+            board.import(number, &hex_bytes(picture)?)
         }
         "post" => {
             let ([start, count], []) = numbers(call, arguments)? else {
                 return Err("post takes two numbers: start, count".to_string());
             };
-            Ok(board.post(start, count))
+            board.post(start, count)
         }
         _ => {
             let ([budget], []) = numbers(call, arguments)? else {
                 return Err("run takes one number: budget".to_string());
             };
-            Ok(board.run(budget))
+            board.run(budget)
         }
-    }
+    };
+    Ok(outcome(report))
 }
 
 /// The first N arguments as numbers, and the arguments after them.
@@ -164,13 +187,21 @@ fn hex_bytes(arguments: &[&str]) -> Result<Vec<u8>, String> {
     Ok(bytes)
 }
 
-fn outcome(line: usize, call: &str, report: Report) -> String {
+fn outcome(report: Report) -> String {
     let Report {
         number,
         place,
         steps,
+        ..
     } = report;
-    format!("{line} {call} answer {number} place {place} steps {steps}\n")
+    format!("answer {number} place {place} steps {steps}")
+}
+
+/// The outcome of an export, and the picture in a line of its own where there is one.
+fn export_outcome(report: Report, picture: &[u8]) -> String {
+    let row = hex_rows(picture, picture.len().max(1) as u32);
+    let text = format!("{} written {}\n{row}", outcome(report), report.written);
+    text.trim_end().to_string()
 }
 
 /// The records and both pictures.

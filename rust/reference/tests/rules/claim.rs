@@ -1,7 +1,10 @@
 //! The claim of demand 3 over random sequences of calls, and that no call panics.
 
 use crate::common::*;
-use reference::{feed, make, post, run, store, window_write, Feed, Record, Sequence};
+use reference::pictures::picture;
+use reference::{
+    export, feed, import, make, post, run, store, window_write, Feed, Record, Sequence,
+};
 
 /// A small generator of numbers (xorshift).
 struct Random(u64);
@@ -66,7 +69,7 @@ impl Random {
 
 /// One random call; whether it was done. The feed record is kept, or any is given.
 fn call(random: &mut Random, board: &mut Sequence, line: &mut Feed) -> bool {
-    let report = match random.below(10) {
+    let report = match random.below(12) {
         0 | 1 => {
             let count = random.below(4) as usize;
             let bytes: Vec<u8> = (0..count).flat_map(|_| random.entry()).collect();
@@ -88,6 +91,15 @@ fn call(random: &mut Random, board: &mut Sequence, line: &mut Feed) -> bool {
                 line,
                 &bytes[..random.below(bytes.len() as u64 + 1) as usize],
             )
+        }
+        7 => {
+            let mut output = vec![0; random.below(60) as usize];
+            board.export(random.below(3), &mut output)
+        }
+        8 => {
+            let pixels: Vec<u8> = (0..32).map(|_| random.word() as u8).collect();
+            let picture = picture(random.pick(&[8, 8, 8, 4]), 4, &pixels);
+            board.import(random.below(3), &picture)
         }
         _ => {
             let budget = random.below(40);
@@ -155,6 +167,8 @@ fn no_call_panics() {
         store(&mut record, &mut list, first, &bytes);
         feed(&mut record, &mut any_feed(&mut random), &mut list, &bytes);
         window_write(&mut record, random.below(3), first, &bytes, &mut display);
+        export(&mut record, random.below(3), &display, &mut list);
+        import(&mut record, random.below(3), &list, &mut display);
         run(
             &mut record,
             first.min(9_999),

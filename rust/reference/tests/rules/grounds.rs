@@ -183,9 +183,8 @@ fn run_meets_an_illegal_entry() {
         let (mut display, mut virt) = ([0; 32], [0; 32]);
         let report = run(&mut record, budget, &list, &mut display, &mut virt);
         let expected = Report {
-            number,
-            place: 0,
             steps: done,
+            ..plain(number)
         };
         assert_eq!(report, expected);
         assert_eq!((record.next, record.active_taken), (done as u32, 1));
@@ -218,9 +217,8 @@ fn run_meets_an_illegal_entry_in_the_pending_list() {
         assert_eq!(
             report,
             Report {
-                number,
-                place: 0,
-                steps: done
+                steps: done,
+                ..plain(number)
             }
         );
         assert_eq!((record.taken_spans(), record.next), (vec![(8, 2)], 8));

@@ -9,6 +9,7 @@ mod grounds;
 mod malformed;
 mod packing;
 mod paper;
+mod pictures;
 mod pixels;
 mod stipples;
 mod visits;
