@@ -21,7 +21,7 @@ pub(crate) enum Raster {
     Nowhere,
 }
 
-// In a picture of this size they are its last width x height bytes.
+// Where the pixels start, which are the last bytes of a picture of this size.
 fn raster_start(picture: &[u8], width: u32, height: u32) -> Raster
     ensures { λ r. ⌜ r ≡ rasterOf width height (now (picture .entry)) ⌝ }
 {
