@@ -1,4 +1,5 @@
-// Rows from sixteen bytes again and again.
+// Rows from sixteen bytes again and again. The lengths 8, 16 and 32 are written out: as arguments they would make loops of what is one
+// operation.
 ghost use mathlib.Core.Path.{_≡_};
 ghost use Prim.Native.Nat.{_+_, _%_, _≤_};
 ghost use lib.ListN.{length};
