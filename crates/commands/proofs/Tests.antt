@@ -80,15 +80,6 @@ module _ (extent : Extent) (e : Engine) where
       second-of (isLine (commandIn e)) lineTo 0 k
       ∙ second-of (isBlit (commandIn e)) (length shown) (cond (isLine (commandIn e)) lineTo 0) h
 
-  -- a command that is no blit visits no pixel where it is no line, or an empty one
-  pub empty-line : isBlit (commandIn e) ≡ false → (t none : Bool) → t ≡ isLine (commandIn e) → none ≡ eqb lineTo 0
-      → (not t || none) ≡ eqb (countOf extent e) 0
-  empty-line h t none q r = by t q
-    where
-      by : (t : Bool) → t ≡ isLine (commandIn e) → (not t || none) ≡ eqb (countOf extent e) 0
-      by true q = r ∙ ap (λ n. eqb n 0) (count-line h (sym q))
-      by false q = ap (λ n. eqb n 0) (count-none h (sym q))
-
   -- a command with pixels to visit is a blit or a line
   pub pixels-draw : ltb 0 (countOf extent e) ≡ true → draws (commandIn e) ≡ true
   pixels-draw h =

@@ -2,63 +2,81 @@
 -- point, and so its count, until it has finished.
 -- Assumes nothing.
 use mathlib.Core.Path.{_≡_, refl, ap, ap₂, sym, _∙_}
-use mathlib.Core.Bool.{Bool, true, false, not, cond, _&&_, and-false}
+use mathlib.Core.Bool.{Bool, true, false, cond, _&&_, and-false}
 use Prim.Native.Nat.{ℕ}
 use native.Mathlib.Omega.{arith}
-use borrow.Author.Tests.{eqb-true, eqb-false, ltb-true, lt-ltb, le-ltb, ne-eqb}
+use borrow.Author.Tests.{eqb-true, ltb-true, ne-eqb}
 use lib.Dec.{eqb, ltb}
 use Rattle.lemmas.proofs.Booleans.{by-cases, and-right}
 use Rattle.geometry.specs.declared.Extent.{Extent}
 use Rattle.entries.specs.Fields.{draws, isTrigger, triggers}
-use Rattle.registers.specs.declared.dashes.Pattern.{Pattern}
+use Rattle.entries.specs.declared.decoding.Entry.{Entry}
 use Rattle.commands.specs.Visits.{commandIn, Rule, shows, countBy, countOf}
-use Rattle.commands.specs.Steps.{patternSet, finishes, triggeredBy, triggeredOf}
+use Rattle.commands.specs.Steps.{patternSet, withWord, triggeredBy, enteredBy, enteredOf}
+use Rattle.commands.specs.Entering.{writes, putOf, begunOf}
 use Rattle.commands.specs.declared.Engine.{Engine}
 use Rattle.commands.proofs.Bounds.{count-same}
 use Rattle.commands.proofs.Tests.{pixels-draw}
 
 -- another register than XY1 triggers nothing
-pub triggers-nothing : (extent : Extent) (number : ℕ) (f : Engine) → isTrigger number ≡ false → (q : Pattern) → q ≡ patternSet number f
-    → record { «under_way» = false; visited = 0; registers = f .registers; pattern = q; last = f .last } ≡ triggeredOf extent number f
-triggers-nothing extent number f h q e = rw (e, h)
+pub put-entered : (extent : Extent) (e : Engine) (x : Entry) → isTrigger (x .register) ≡ false
+    → putOf e (x .register) (x .word) ≡ enteredOf extent e x
+unfolding enteredBy
+put-entered extent e x h = rw h
 
--- a test on the count
-some-pixels : (n : ℕ) (empty : Bool) → empty ≡ eqb n 0 → not empty ≡ ltb 0 n
-some-pixels n empty h =
-    ap not h
-    ∙ by-cases (eqb n 0)
-    (λ t. rw t (sym (le-ltb 0 n (omega (arith, eqb-true n 0 t)))))
-    (λ t. rw t (sym (lt-ltb 0 n (omega (arith, eqb-false n 0 t)))))
+-- an entry that triggers is known by its word
+pub trigger-entered : (extent : Extent) (e : Engine) (x : Entry) → isTrigger (x .register) ≡ true
+    → enteredOf extent e (writes 12 (x .word)) ≡ enteredOf extent e x
+unfolding enteredBy
+trigger-entered extent e x h = ap (λ n. enteredOf extent e (writes n (x .word))) (sym (eqb-true (x .register) 12 h))
 
--- XY1 triggers the command in CMD, where it draws
-module _ (extent : Extent) (number : ℕ) (f : Engine) (trigger : isTrigger number ≡ true) (d empty : Bool) (drawn : d ≡ draws (commandIn f))
-    (none : empty ≡ eqb (countOf extent f) 0) (q : Pattern) (set : q ≡ patternSet number f) where
-  triggering : triggers number (commandIn f) ≡ d
-  triggering = ap (λ t. t && draws (commandIn f)) trigger ∙ sym drawn
+-- XY1's word put into its register, and the command in CMD begun with its count
+module _ (extent : Extent) (e : Engine) (word : ℕ) where
+  abbrev put : Engine
+  put = withWord e (writes 12 word)
 
   -- only a command that draws has pixels
-  begins : not empty ≡ (triggers number (commandIn f) && ltb 0 (countOf extent f))
+  begins : ltb 0 (countOf extent put) ≡ (draws (commandIn put) && ltb 0 (countOf extent put))
   begins =
-      let some = ltb 0 (countOf extent f) in
-      some-pixels (countOf extent f) empty none
-      ∙ by-cases some
-      (λ t. t ∙ sym (ap₂ _&&_ (ap₂ _&&_ trigger (pixels-draw extent f t)) t))
-      (λ t. t ∙ sym (ap (λ s. triggers number (commandIn f) && s) t ∙ and-false (triggers number (commandIn f))))
+      let some = ltb 0 (countOf extent put) in
+      by-cases some (λ t. t ∙ sym (ap₂ _&&_ (pixels-draw extent put t) t))
+      (λ t. t ∙ sym (ap (λ s. draws (commandIn put) && s) t ∙ and-false (draws (commandIn put))))
 
-  ends : (d && empty) ≡ finishes shows extent number f
-  ends = ap (λ t. t && empty) (sym triggering) ∙ ap (λ t. triggers number (commandIn f) && t) none
-
-  pub triggers-command : (b : Bool) → (d && empty) ≡ b
-      → record { «under_way» = not empty; visited = 0; registers = f .registers; pattern = q; last = cond b (f .registers .xy1) (f .last) }
-      ≡ triggeredOf extent number f
-  triggers-command b h i =
+  pub begun-entered : (w f : Engine) (n : ℕ) → w ≡ putOf e 12 word → n ≡ countOf extent w → f ≡ begunOf w n
+      → f ≡ enteredOf extent e (writes 12 word)
+  unfolding enteredBy
+  begun-entered w f n p q r =
+      r ∙ ap₂ begunOf p (q ∙ ap (countOf extent) p ∙ count-same shows extent (putOf e 12 word) put refl refl)
+      ∙ (λ i.
       record {
         «under_way» = begins i;
         visited = 0;
-        registers = f .registers;
-        pattern = set i;
-        last = cond ((sym h ∙ ends) i) (f .registers .xy1) (f .last);
-      }
+        registers = put .registers;
+        pattern = patternSet 12 put;
+        last = cond (draws (commandIn put) && eqb (countOf extent put) 0) (put .registers .xy1) (put .last);
+      })
+
+-- the last point by the test that was made
+pub begun-by : (w : Engine) (n : ℕ) (d : Bool) → d ≡ draws (commandIn w) → (b : Bool) → (d && eqb n 0) ≡ b
+    → record { «under_way» = ltb 0 n; visited = 0; registers = w .registers; pattern = w .pattern; last = cond b (w .registers .xy1) (w .last) }
+    ≡ begunOf w n
+begun-by w n d p b h i =
+    record {
+      «under_way» = ltb 0 n;
+      visited = 0;
+      registers = w .registers;
+      pattern = w .pattern;
+      last = cond ((sym h ∙ ap (λ t. t && eqb n 0) p) i) (w .registers .xy1) (w .last);
+    }
+
+-- the count of a command that is under way then
+pub begun-counted : (extent : Extent) (w f : Engine) (n : ℕ) → n ≡ countOf extent w → f ≡ begunOf w n → f .«under_way» ≡ true
+    → n ≡ countOf extent f
+begun-counted extent w f n q r u =
+    let some = ltb-true 0 n (sym (ap (λ (f : Engine). f .«under_way») r) ∙ u) in
+    let keeps : (draws (commandIn w) && eqb n 0) ≡ false = ap (λ t. draws (commandIn w) && t) (ne-eqb n 0 (λ z. omega arith)) ∙ and-false (draws (commandIn w)) in
+    q ∙ sym (count-same shows extent f w (ap (λ (f : Engine). f .registers) r)
+    (ap (λ (f : Engine). f .last) r ∙ ap (λ t. cond t (w .registers .xy1) (w .last)) keeps))
 
 -- with pixels to visit the command has not finished
 unfinished : (n : Bool) (c : ℕ) → (n && ltb 0 c) ≡ true → (n && eqb c 0) ≡ false

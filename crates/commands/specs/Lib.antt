@@ -1,6 +1,7 @@
 pub mod Visits
 pub mod Hatching
 pub mod Steps
+pub mod Entering
 pub mod Record
 pub mod Wholes
 pub mod Lists

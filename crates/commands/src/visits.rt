@@ -1,6 +1,8 @@
 // What the command in CMD visits.
 ghost use mathlib.Core.Path.{_≡_};
-ghost use lib.Dec.{eqb};
+ghost use mathlib.Core.Bool.{cond};
+ghost use Rattle.commands.specs.declared.Engine.{Engine};
+ghost use Rattle.commands.specs.Entering.{numbered};
 ghost use Rattle.commands.specs.Visits.{lineStart, windowIn, countOf, cellAt, positionOf, targetFrom};
 use crate::Engine;
 use entries::command_of;
@@ -12,14 +14,47 @@ use geometry::Window;
 use geometry::blit_cell;
 use geometry::cell_visit;
 use geometry::line_count;
-use geometry::line_is_empty;
 use geometry::line_visit;
 use geometry::place_of;
 use geometry::rect_of;
 use geometry::visible_count;
 use geometry::visible_index;
-use geometry::visible_is_empty;
 use geometry::window_of;
+
+// Where a line starts: a polyline at the last point.
+fn start_of(polyline: bool, last: u32, xy0: u32) -> u32
+    ensures { λ r. ⌜ r ≡ cond polyline last xy0 ⌝ }
+{
+    if polyline { last } else { xy0 }
+}
+
+// How many pixels a command visits, by all the numbers that decide it. They come one by one: an engine handed over would be
+// copied, and its copy would wait for the register that was written last.
+pub(crate) fn count_by(
+    width: u32,
+    height: u32,
+    cmd: u32,
+    last: u32,
+    xy0: u32,
+    xy1: u32,
+    xy2: u32,
+    xy3: u32,
+    clptl: u32,
+    clpbr: u32,
+) -> usize
+    ensures { λ r. ⌜ ((e : Engine) → r ≡ countOf (record { width = width; height = height }) (numbered e cmd last xy0 xy1 xy2 xy3 clptl clpbr)) ⌝ }
+{
+    let c = command_of(cmd);
+    if c.is_blit() {
+        let extent = Extent { width, height };
+        return visible_count(xy1, xy2, xy3, window_of(extent, c.clip, clptl, clpbr));
+    }
+    if c.is_line() {
+        let start = start_of(c.is_polyline(), last, xy0);
+        return line_count(start, xy1, c.nlst);
+    }
+    0
+}
 
 impl Engine {
     // Where the line in CMD starts.
@@ -28,7 +63,7 @@ impl Engine {
     {
         let g = self.registers;
         let c = command_of(g.cmd);
-        if c.is_polyline() { self.last } else { g.xy0 }
+        start_of(c.is_polyline(), self.last, g.xy0)
     }
 
     // The part of a buffer that clip and buffer let through.
@@ -45,28 +80,18 @@ impl Engine {
         ensures { λ r. ⌜ r ≡ countOf extent self ⌝ }
     {
         let g = self.registers;
-        let c = command_of(g.cmd);
-        if c.is_blit() {
-            return visible_count(g.xy1, g.xy2, g.xy3, self.window(extent));
-        }
-        if c.is_line() {
-            return line_count(self.line_start(), g.xy1, c.nlst);
-        }
-        0
-    }
-
-    // Whether it visits no pixel.
-    pub(crate) fn is_empty(self, extent: Extent) -> bool
-        ensures { λ r. ⌜ r ≡ eqb (countOf extent self) 0 ⌝ }
-    {
-        let g = self.registers;
-        let c = command_of(g.cmd);
-        if c.is_blit() {
-            return visible_is_empty(g.xy1, g.xy2, g.xy3, self.window(extent));
-        }
-        let line = c.is_line();
-        let start = self.line_start();
-        !line | line_is_empty(start, g.xy1, c.nlst)
+        count_by(
+            extent.width,
+            extent.height,
+            g.cmd,
+            self.last,
+            g.xy0,
+            g.xy1,
+            g.xy2,
+            g.xy3,
+            g.clptl,
+            g.clpbr,
+        )
     }
 
     // The cell of its visit k, if it is a blit.

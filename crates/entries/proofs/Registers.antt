@@ -1,13 +1,13 @@
 -- Which words a register may hold, register by register.
 -- Assumes nothing.
-use mathlib.Core.Path.{_≡_}
-use mathlib.Core.Bool.{Bool, _&&_, _||_, or-false}
+use mathlib.Core.Path.{_≡_, ap, sym, _∙_}
+use mathlib.Core.Bool.{Bool, true, _&&_, _||_, or-false}
 use Prim.Native.Nat.{ℕ, _/_, _%_, _^_, _≤_, _<_}
 use native.Mathlib.Omega.{arith}
-use borrow.Author.Tests.{eqb-true, eqb-false, eq-eqb, ne-eqb, leb-true, leb-false, le-leb, lt-leb}
+use borrow.Author.Tests.{eqb-false, eq-eqb, ne-eqb, le-leb, lt-leb, ltb-true, ltb-false}
 use lib.Dec.{eqb, leb, ltb}
 use Rattle.lemmas.proofs.Booleans.{by-cases}
-use Rattle.entries.specs.Legality.{cmdLegal, pctrlLegal, dataLegal}
+use Rattle.entries.specs.Legality.{cmdLegal, pctrlLegal, dataLegal, entryLegal}
 
 pub cmd-held : (register word : ℕ) → register ≡ 0 → cmdLegal word ≡ dataLegal register word
 unfolding dataLegal
@@ -21,12 +21,8 @@ pub size-held : (register word : ℕ) → register ≡ 10 → (leb (word / 2 ^ 1
 unfolding dataLegal
 size-held register word e = rw e (simp or-false)
 
-pub direction-held : (register word : ℕ) → register ≡ 11 → leb word 3 ≡ dataLegal register word
-unfolding dataLegal
-direction-held register word e = rw e (simp or-false)
-
 -- FORE, BACK, MASK and KEY
-pub byte-held : (register word : ℕ) → (register ≡ 0 → ⊥) → register ≤ 4 → ltb word 256 ≡ dataLegal register word
+byte-held : (register word : ℕ) → (register ≡ 0 → ⊥) → register ≤ 4 → ltb word 256 ≡ dataLegal register word
 unfolding dataLegal
 byte-held register word some h =
     rw (
@@ -42,39 +38,45 @@ byte-held register word some h =
     )
     (simp or-false)
 
--- a register past XY3 is XY1, or there is none
-last-held : (register : ℕ) → 11 < register → leb register 12 ≡ eqb register 12
-last-held register h =
-    by-cases (leb register 12) (λ t. let k = leb-true register 12 t in rw (t, eq-eqb register 12 (omega arith)))
-    (λ t. let k = leb-false register 12 t in rw (t, ne-eqb register 12 (λ e. omega arith)))
-
--- LPAT and the points, or no register
-any-held : (register : ℕ) → 4 < register → (register ≡ 6 → ⊥) → (register ≡ 10 → ⊥) → (register ≡ 11 → ⊥)
-    → leb register 12 ≡ (eqb register 5 || leb 7 register && leb register 9 || eqb register 12)
-any-held register low pctrl size direction =
-    by-cases (eqb register 5)
-    (λ t. let k = eqb-true register 5 t in rw (t, le-leb register 12 (omega arith)))
-    (λ t.
-    let k = eqb-false register 5 t in
-    rw (t, le-leb 7 register (omega (arith, k, pctrl)))
-    (by-cases (leb register 9)
-    (λ u. let j = leb-true register 9 u in rw (u, le-leb register 12 (omega arith)))
-    (λ u. let j = leb-false register 9 u in rw u (last-held register (omega (arith, size, direction))))))
-
-pub point-held : (register word : ℕ) → 4 < register → (register ≡ 6 → ⊥) → (register ≡ 10 → ⊥) → (register ≡ 11 → ⊥)
-    → leb register 12 ≡ dataLegal register word
+-- LPAT, CLPTL, CLPBR and XY0
+any-held : (register word : ℕ) → 4 < register → register ≤ 9 → (register ≡ 6 → ⊥) → true ≡ dataLegal register word
 unfolding dataLegal
-point-held register word low pctrl size direction =
+any-held register word low high pctrl =
     rw (
       ne-eqb register 0 (λ e. omega arith),
       le-leb 1 register (omega arith),
       lt-leb register 4 low,
       ne-eqb register 6 pctrl,
-      ne-eqb register 10 size,
-      ne-eqb register 11 direction,
+      le-leb register 9 high,
     )
-    (simp or-false (any-held register low pctrl size direction))
+    (by-cases (eqb register 5) (λ t. rw t) (λ t. rw (t, le-leb 7 register (omega (arith, eqb-false register 5 t, pctrl)))))
+
+pub low-held : (register word : ℕ) → (register ≡ 0 → ⊥) → (register ≡ 6 → ⊥) → register ≤ 9
+    → (ltb 4 register || ltb word 256) ≡ dataLegal register word
+low-held register word some pctrl h =
+    by-cases (ltb 4 register) (λ t. rw t (any-held register word (ltb-true 4 register t) h pctrl))
+    (λ t. rw t (byte-held register word some (ltb-false 4 register t)))
+
+-- XY3 and XY1, or no register
+pub high-held : (register word : ℕ) → 10 < register → (eqb register 11 && leb word 3 || eqb register 12) ≡ dataLegal register word
+unfolding dataLegal
+high-held register word h =
+    rw (
+      ne-eqb register 0 (λ e. omega arith),
+      le-leb 1 register (omega arith),
+      lt-leb register 4 (omega arith),
+      ne-eqb register 5 (λ e. omega arith),
+      ne-eqb register 6 (λ e. omega arith),
+      le-leb 7 register (omega arith),
+      lt-leb register 9 (omega arith),
+      ne-eqb register 10 (λ e. omega arith),
+    )
 
 -- an entry with no spare bit set
 pub entry-held : (spare : ℕ) (held : Bool) → spare ≡ 0 → held ≡ (eqb spare 0 && held)
 entry-held spare held h = rw (eq-eqb spare 0 h)
+
+-- the same where the register is known by its number
+pub known-held : (register spare word number : ℕ) → register ≡ number → spare ≡ 0
+    → dataLegal number word ≡ entryLegal (record { register = register; spare = spare; word = word })
+known-held register spare word number e h = ap (λ r. dataLegal r word) (sym e) ∙ entry-held spare (dataLegal register word) h

@@ -66,11 +66,13 @@ impl Command {
     }
 }
 
-// Whether writing a register triggers the command in CMD.
+// The register whose writing triggers the command in CMD: XY1.
+pub const TRIGGER: u32 = 12;
+
 pub fn is_trigger(register: u32) -> bool
     ensures { λ r. ⌜ r ≡ isTrigger register ⌝ }
 {
-    register == 12
+    register == TRIGGER
 }
 
 // PCTRL: the pattern's length in bits, how often each bit is repeated, and the place and repeat at which it starts.

@@ -39,6 +39,25 @@ pub fn legal_pctrl(word: u32) -> bool
     (word < 65536) & (word / 8192 % 8 <= word / 32 % 8) & (word / 256 % 32 < length)
 }
 
+// Whether a register may hold a word. FORE, BACK, MASK and KEY are registers 1 to 4; LPAT and the points hold any word.
+pub fn legal_data(register: u32, word: u32) -> bool
+    ensures { λ r. ⌜ r ≡ dataLegal register word ⌝ }
+{
+    if register == 0 {
+        return legal_cmd(word);
+    }
+    if register == 6 {
+        return legal_pctrl(word);
+    }
+    if register <= 9 {
+        return (4 < register) | (word < 256);
+    }
+    if register == 10 {
+        return (word / 65536 <= 2048) & (word % 65536 <= 2048);
+    }
+    ((register == 11) & (word <= 3)) | (register == 12)
+}
+
 // Whether an entry is legal. It comes by its fields, which stay in machine registers.
 pub fn legal_entry(register: u32, spare: u32, word: u32) -> bool
     ensures { λ r. ⌜ r ≡ entryLegal (record { register = register; spare = spare; word = word }) ⌝ }
@@ -46,29 +65,7 @@ pub fn legal_entry(register: u32, spare: u32, word: u32) -> bool
     if spare != 0 {
         return false;
     }
-    if register == 0 {
-        return legal_cmd(word);
-    }
-    if register <= 4 {
-        return word < 256;
-    }
-    if register == 6 {
-        return legal_pctrl(word);
-    }
-    if register == 10 {
-        return (word / 65536 <= 2048) & (word % 65536 <= 2048);
-    }
-    if register == 11 {
-        return word <= 3;
-    }
-    register <= 12
-}
-
-// Whether a register may hold a word.
-pub fn legal_data(register: u32, word: u32) -> bool
-    ensures { λ r. ⌜ r ≡ dataLegal register word ⌝ }
-{
-    legal_entry(register, 0, word)
+    legal_data(register, word)
 }
 
 // Whether list memory has a legal entry at a place.

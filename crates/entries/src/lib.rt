@@ -9,6 +9,7 @@ pub use decoding::entry_at;
 pub use decoding::join;
 pub use fields::Command;
 pub use fields::PatternControl;
+pub use fields::TRIGGER;
 pub use fields::command_of;
 pub use fields::is_trigger;
 pub use fields::pattern_control_of;

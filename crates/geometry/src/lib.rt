@@ -11,12 +11,9 @@ ghost use Rattle.geometry.specs.Line.{distance, stepsOf, lineCount, near
 ghost use Rattle.geometry.specs.Blit.{blitCount, blitCell, away, cellVisit};
 use numbers::max;
 use numbers::min;
-pub use visible::Part;
 pub use visible::Range;
 pub use visible::visible_count;
 pub use visible::visible_index;
-pub use visible::visible_is_empty;
-pub use visible::visible_part;
 
 // Coordinates are held 98,304 up: this is the coordinate 0.
 pub const ORIGIN: usize = 98304;
@@ -173,13 +170,6 @@ pub fn line_count(from: u32, to: u32, skip_last: bool) -> usize
 {
     let n = line_steps(from, to);
     if skip_last { n } else { n + 1 }
-}
-
-// Whether a line visits no pixel.
-pub fn line_is_empty(from: u32, to: u32, skip_last: bool) -> bool
-    ensures { λ r. ⌜ r ≡ eqb (lineCount (pointOf from) (pointOf to) «skip_last») 0 ⌝ }
-{
-    skip_last & (from == to)
 }
 
 // One coordinate of pixel i of a line of n steps from a to b.

@@ -1,7 +1,6 @@
 // The part of a blit that a window lets through: some of its columns in some of its rows (document 02, R-6).
 ghost use mathlib.Core.Path.{_≡_};
 ghost use Prim.Native.Nat.{_+_, _*_, _/_, _%_, _<_};
-ghost use lib.Dec.{eqb};
 ghost use Rattle.geometry.specs.Coordinates.{pointOf};
 ghost use Rattle.geometry.specs.Visible.{visibleRange, visiblePart, showsWhole, visibleCount, visibleIndex, IndexFits};
 use crate::Window;
@@ -39,7 +38,7 @@ fn visible_range(back: bool, c: usize, low: usize, high: usize, n: usize) -> Ran
 }
 
 // The visible part of a blit that starts at a corner of the destination rectangle.
-pub fn visible_part(corner: u32, size: u32, direction: u32, window: Window) -> Part
+fn visible_part(corner: u32, size: u32, direction: u32, window: Window) -> Part
     ensures { λ r. ⌜ r ≡ visiblePart (pointOf corner) size direction window ⌝ }
 {
     let c = point_of(corner);
@@ -78,16 +77,6 @@ pub fn visible_count(corner: u32, size: u32, direction: u32, window: Window) -> 
     let across = part.columns;
     let down = part.rows;
     saturating_sub(across.past, across.from) * saturating_sub(down.past, down.from)
-}
-
-// Whether no pixel of a blit is visible.
-pub fn visible_is_empty(corner: u32, size: u32, direction: u32, window: Window) -> bool
-    ensures { λ r. ⌜ r ≡ eqb (visibleCount (pointOf corner) size direction window) 0 ⌝ }
-{
-    if window.contains(point_of(corner)) {
-        return blit_count(size) == 0;
-    }
-    visible_count(corner, size, direction, window) == 0
 }
 
 // The number of the cell k / columns rows below `row` and k % columns columns past `column`, in rows of `width`.

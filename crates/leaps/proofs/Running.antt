@@ -1,15 +1,16 @@
 -- Steps of a list one after the other: many pixels at once, and the loop over entries and commands.
 -- Assumes nothing.
 use mathlib.Core.Path.{_≡_, refl, ap, ap₂, sym, _∙_}
-use mathlib.Core.Bool.{Bool, true, false, not, cond, _&&_, false≢true}
-use mathlib.Core.List.{List}
+use mathlib.Core.Bool.{Bool, true, false, not, cond, _&&_, _||_, false≢true}
+use mathlib.Core.List.{List, []}
 use Prim.Native.Nat.{ℕ, zero, suc, _+_, _-_, _≤_, _<_, min, max}
 use native.Mathlib.Omega.{arith}
-use borrow.Author.Tests.{lt-ltb, le-ltb, ltb-true, ltb-false}
-use lib.Dec.{ltb}
+use borrow.Author.Tests.{lt-ltb, le-ltb, ltb-true, ltb-false, leb-true, leb-false, not-true, not-false}
+use lib.Dec.{leb, ltb}
 use lib.ListN.{length}
-use Rattle.lemmas.proofs.Booleans.{by-cases}
+use Rattle.lemmas.proofs.Booleans.{by-cases, or-first, or-none-left, or-none-right}
 use Rattle.geometry.specs.declared.Extent.{Extent}
+use Rattle.entries.specs.Fields.{isTrigger}
 use Rattle.entries.specs.declared.decoding.Entry.{Entry}
 use Rattle.lists.specs.Spans.{endOf}
 use Rattle.lists.specs.Cursors.{nextOf, fetchedOf, endedOf}
@@ -21,8 +22,10 @@ use Rattle.commands.specs.Visits.{shows, countOf}
 use Rattle.commands.specs.Steps.{Scene, scene, advancedBy, advancedOf, visitBy, visitOf, visitsBy, visitsOf, enteredOf, takenOf}
 use Rattle.commands.specs.declared.Engine.{Engine}
 use Rattle.commands.proofs.Bounds.{count-same}
+use Rattle.commands.proofs.Triggers.{put-entered}
+use Rattle.leaps.specs.declared.list_runs.Taken.{Taken}
 use Rattle.leaps.specs.declared.list_runs.Progress.{Progress}
-use Rattle.leaps.specs.ListRuns.{Reached, GoesTo, stopped, longer, byStep, runFrom, listRun, VisitsDone}
+use Rattle.leaps.specs.ListRuns.{Reached, Reaches, GoesTo, stopped, longer, byStep, runFrom, listRun, VisitsDone, Going, EntriesTaken}
 
 -- ---- sums of steps
 
@@ -108,9 +111,9 @@ broken-more budget r = ap (λ t. t && not (endedOf (r .cursor) (r .after .engine
         (λ t. le-ltb (k + 1) (suc n) (omega (arith, ltb-false k n t)) ∙ sym t)
 
 -- steps that go to where a run does, with what ended it
-pub goes-to : (r : Progress) (d v : List ℕ) (broken : Bool) (o : Reached)
-    → _≡_ {A = Reached} (record { steps = r .steps; cursor = r .cursor; after = scene (r .engine) d v; broken = broken }) o → GoesTo r d v o
-goes-to r d v broken o e i = record { steps = e i .steps; cursor = e i .cursor; after = e i .after; broken = o .broken }
+pub reaches : (k : ℕ) (c : Cursor) (e : Engine) (d v : List ℕ) (broken : Bool) (o : Reached)
+    → _≡_ {A = Reached} (record { steps = k; cursor = c; after = scene e d v; broken = broken }) o → Reaches k c e d v o
+reaches k c e d v broken o p i = record { steps = p i .steps; cursor = p i .cursor; after = p i .after; broken = o .broken }
 
 -- ---- runs of a list
 
@@ -178,14 +181,7 @@ module _ (l : List ℕ) (extent : Extent) where
       go rest Broken e = ap₂ _&&_ (lt-ltb 0 (suc budget) (omega arith)) (ap not (broken-going l c (s .engine .«under_way») e))
 
   -- the loop: k steps are done, and the rest of the run is that from here
-  pub record Going (budget : ℕ) (c₀ : Cursor) (s₀ : Scene) (k : ℕ) (c : Cursor) (s : Scene) : Type 0 where
-    pub under : k ≤ budget
-    pub span-same : c .span ≡ c₀ .span
-    pub display-long : length (s .display) ≡ length (s₀ .display)
-    pub virt-long : length (s .virt) ≡ length (s₀ .virt)
-    pub same : longer k (from (budget - k) c s) ≡ from budget c₀ s₀
-
-  pub going-start : (budget : ℕ) (c : Cursor) (s : Scene) → Going budget c s 0 c s
+  pub going-start : (budget : ℕ) (c : Cursor) (s : Scene) → Going l extent budget c s 0 c s
   going-start budget c s =
       let e : budget - 0 ≡ budget = omega arith in
       record {
@@ -197,9 +193,9 @@ module _ (l : List ℕ) (extent : Extent) where
       }
 
   module _ (budget : ℕ) (c₀ : Cursor) (s₀ : Scene) (k : ℕ) (c : Cursor) (s : Scene) (below : k < budget)
-      (going : Going budget c₀ s₀ k c s) where
+      (going : Going l extent budget c₀ s₀ k c s) where
     pub going-visits : (j : ℕ) (t : Scene) → VisitsDone (budget - k) extent s j t → length (t .display) ≡ length (s .display)
-        → length (t .virt) ≡ length (s .virt) → Going budget c₀ s₀ (k + j) c t
+        → length (t .virt) ≡ length (s .virt) → Going l extent budget c₀ s₀ (k + j) c t
     going-visits j t done ld lv =
         let rest = budget - (k + j) in
         let split : budget - k ≡ rest + j = omega (arith, done .few) in
@@ -216,7 +212,7 @@ module _ (l : List ℕ) (extent : Extent) where
         }
 
     pub going-takes : (x : Entry) → nextOf l c (s .engine .«under_way») ≡ Take x → (f : Engine) → f ≡ enteredOf extent (s .engine) x
-        → Going budget c₀ s₀ (k + 1) (fetchedOf c) (scene f (s .display) (s .virt))
+        → Going l extent budget c₀ s₀ (k + 1) (fetchedOf c) (scene f (s .display) (s .virt))
     going-takes x e f p =
         let rest = budget - (k + 1) in
         let split : budget - k ≡ suc rest = omega arith in
@@ -252,13 +248,134 @@ module _ (l : List ℕ) (extent : Extent) where
         ∙ ap (λ i. longer k (from i c s)) (sym split) ∙ going .same
 
   -- the budget is spent
-  pub going-spent : (budget : ℕ) (c₀ : Cursor) (s₀ : Scene) (k : ℕ) (c : Cursor) (s : Scene) → budget ≤ k → Going budget c₀ s₀ k c s
+  pub going-spent : (budget : ℕ) (c₀ : Cursor) (s₀ : Scene) (k : ℕ) (c : Cursor) (s : Scene) → budget ≤ k → Going l extent budget c₀ s₀ k c s
       → _≡_ {A = Reached} (record { steps = k; cursor = c; after = s; broken = false }) (from budget c₀ s₀)
   unfolding runFrom
   going-spent budget c₀ s₀ k c s h going =
       let none : budget - k ≡ 0 = omega arith in
       let grown : k ≡ 0 + k = omega arith in
       (λ i. record { steps = grown i; cursor = c; after = s; broken = false }) ∙ ap (λ i. longer k (from i c s)) (sym none) ∙ going .same
+
+  -- steps within the rest of a run
+  module _ (budget : ℕ) (c₀ : Cursor) (s₀ : Scene) (k : ℕ) (c : Cursor) (s : Scene) (going : Going l extent budget c₀ s₀ k c s) where
+    pub going-then : (j : ℕ) (d : Cursor) (t : Scene) → Going l extent (budget - k) c s j d t → Going l extent budget c₀ s₀ (k + j) d t
+    going-then j d t more =
+        let rest : budget - (k + j) ≡ budget - k - j = omega arith in
+        let swap : k + j ≡ j + k = omega arith in
+        let o = from (budget - k - j) d t in
+        record {
+          under = omega (arith, going .under, more .under);
+          span-same = more .span-same ∙ going .span-same;
+          display-long = more .display-long ∙ going .display-long;
+          virt-long = more .virt-long ∙ going .virt-long;
+          same =
+              ap (λ i. longer (k + j) (from i d t)) rest ∙ ap (λ i. longer i o) swap ∙ sym (longer-longer k j o)
+              ∙ ap (longer k) (more .same) ∙ going .same;
+        }
+
+    pub reaches-then : (j : ℕ) (d : Cursor) (e : Engine) (display virt : List ℕ) → Reaches j d e display virt (from (budget - k) c s)
+        → Reaches (k + j) d e display virt (from budget c₀ s₀)
+    reaches-then j d e display virt r =
+        let swap : k + j ≡ j + k = omega arith in
+        let broken = from (budget - k) c s .broken in
+        reaches (k + j) d e display virt broken (from budget c₀ s₀)
+        ((λ i. record { steps = swap i; cursor = d; after = scene e display virt; broken = broken }) ∙ ap (longer k) r ∙ going .same)
+
+  -- entries taken while no command is under way: they change no buffer
+  module _ (budget : ℕ) (c₀ : Cursor) (e₀ : Engine) where
+    pub record Resting (k : ℕ) (c : Cursor) (e : Engine) : Type 0 where
+      pub rests : e .«under_way» ≡ false
+      pub going : (d v : List ℕ) → Going l extent budget c₀ (scene e₀ d v) k c (scene e d v)
+
+    pub resting-start : e₀ .«under_way» ≡ false → Resting 0 c₀ e₀
+    resting-start u = record { rests = u; going = λ d v. going-start budget c₀ (scene e₀ d v) }
+
+    abbrev resting : ℕ → Cursor → Engine → Taken
+    resting k c e = record { engine = e; cursor = c; steps = k; count = 0 }
+
+    -- no command is under way at the end of the run
+    rests-over : (k : ℕ) (c : Cursor) (e : Engine) → Resting k c e
+        → ((d v : List ℕ) → Reaches k c e d v (from budget c₀ (scene e₀ d v)))
+        → EntriesTaken l extent budget c₀ e₀ (resting k c e)
+    rests-over k c e r over =
+        record { going = r .going; counted = λ u. absurd (false≢true (sym (r .rests) ∙ u)); over = λ _. over }
+
+    -- one is under way, with its count
+    pub entries-begun : (k : ℕ) (c : Cursor) (e : Engine) (n : ℕ)
+        → ((d v : List ℕ) → Going l extent budget c₀ (scene e₀ d v) k c (scene e d v))
+        → e .«under_way» ≡ true → n ≡ countOf extent e
+        → EntriesTaken l extent budget c₀ e₀ (record { engine = e; cursor = c; steps = k; count = n })
+    entries-begun k c e n going u counted =
+        record { going = going; counted = λ _. counted; over = λ t. absurd (false≢true (sym t ∙ u)) }
+
+    pub entries-none : (n : ℕ) → e₀ .«under_way» ≡ true → n ≡ countOf extent e₀
+        → EntriesTaken l extent budget c₀ e₀ (record { engine = e₀; cursor = c₀; steps = 0; count = n })
+    entries-none n u counted = entries-begun 0 c₀ e₀ n (λ d v. going-start budget c₀ (scene e₀ d v)) u counted
+
+    pub resting-spent : (k : ℕ) (c : Cursor) (e : Engine) → budget ≤ k → Resting k c e → EntriesTaken l extent budget c₀ e₀ (resting k c e)
+    resting-spent k c e h r =
+        rests-over k c e r
+        (λ d v. reaches k c e d v false (from budget c₀ (scene e₀ d v)) (going-spent budget c₀ (scene e₀ d v) k c (scene e d v) h (r .going d v)))
+
+    module _ (k : ℕ) (c : Cursor) (e : Engine) (below : k < budget) (r : Resting k c e) where
+      next-at : (x : Next) → nextOf l c false ≡ x → nextOf l c (e .«under_way») ≡ x
+      next-at x h = ap (nextOf l c) (r .rests) ∙ h
+
+      pub resting-takes : (x : Entry) → nextOf l c false ≡ Take x → (f : Engine) → f ≡ enteredOf extent e x
+          → (d v : List ℕ) → Going l extent budget c₀ (scene e₀ d v) (k + 1) (fetchedOf c) (scene f d v)
+      resting-takes x h f p d v =
+          going-takes budget c₀ (scene e₀ d v) k c (scene e d v) below (r .going d v) x (next-at (Take x) h) f p
+
+      -- an entry that triggers nothing leaves no command under way
+      pub resting-goes : (x : Entry) → nextOf l c false ≡ Take x → isTrigger (x .register) ≡ false → (f : Engine) → f ≡ enteredOf extent e x
+          → Resting (k + 1) (fetchedOf c) f
+      resting-goes x h plain f p =
+          record {
+            rests = ap (λ (f : Engine). f .«under_way») (p ∙ sym (put-entered extent e x plain));
+            going = resting-takes x h f p;
+          }
+
+      pub resting-room : endOf (c₀ .span) < 4294967296 → (x : Entry) → nextOf l c false ≡ Take x → c .next + 1 < 4294967296
+      resting-room fits x h =
+          going-room budget c₀ (scene e₀ [] []) k c (scene e [] []) below (r .going [] []) fits x (next-at (Take x) h)
+
+      -- no entry is left, or the next one is illegal
+      pub resting-stops : (x : Next) (broken : Bool) → nextOf l c false ≡ x
+          → ((s : Scene) (o : Reached) (f : Cursor → Scene → Reached) → byStep extent x c s o f ≡ stopped c s broken)
+          → EntriesTaken l extent budget c₀ e₀ (resting k c e)
+      resting-stops x broken h stops =
+          rests-over k c e r
+          (λ d v.
+          reaches k c e d v broken (from budget c₀ (scene e₀ d v))
+          (going-stops budget c₀ (scene e₀ d v) k c (scene e d v) below (r .going d v) x broken (next-at x h) (stops (scene e d v))))
+
+  -- entries taken within a run
+  module _ (budget : ℕ) (c₀ : Cursor) (s₀ : Scene) (k : ℕ) (c : Cursor) (e : Engine) (d v : List ℕ)
+      (going : Going l extent budget c₀ s₀ k c (scene e d v)) (r : Taken) (taken : EntriesTaken l extent (budget - k) c e r) where
+    pub entries-going : Going l extent budget c₀ s₀ (k + r .steps) (r .cursor) (scene (r .engine) d v)
+    entries-going = going-then budget c₀ s₀ k c (scene e d v) going (r .steps) (r .cursor) (scene (r .engine) d v) (taken .going d v)
+
+    abbrev ends : Bool
+    ends = leb budget (k + r .steps) || not (r .engine .«under_way»)
+
+    -- with the budget spent or no command under way, the run has ended
+    pub entries-end : ends ≡ true → Reaches (k + r .steps) (r .cursor) (r .engine) d v (from budget c₀ s₀)
+    entries-end h =
+        by-cases (leb budget (k + r .steps))
+        (λ t.
+        reaches (k + r .steps) (r .cursor) (r .engine) d v false (from budget c₀ s₀)
+        (going-spent budget c₀ s₀ (k + r .steps) (r .cursor) (scene (r .engine) d v) (leb-true budget (k + r .steps) t) entries-going))
+        (λ t.
+        let idle = not-true (r .engine .«under_way») (or-first (leb budget (k + r .steps)) (not (r .engine .«under_way»)) h t) in
+        reaches-then budget c₀ s₀ k c (scene e d v) going (r .steps) (r .cursor) (r .engine) d v (taken .over idle d v))
+
+    module _ (h : ends ≡ false) where
+      pub entries-left : k + r .steps < budget
+      entries-left = leb-false budget (k + r .steps) (or-none-left (leb budget (k + r .steps)) (not (r .engine .«under_way»)) h)
+
+      pub entries-busy : r .engine .«under_way» ≡ true
+      entries-busy =
+          not-false (r .engine .«under_way») (or-none-right (leb budget (k + r .steps)) (not (r .engine .«under_way»)) h)
 
   -- a list is run where its end fits
   pub run-fits : (budget : ℕ) (c : Cursor) (s : Scene) → endOf (c .span) < 4294967296 → from budget c s ≡ listRun budget l extent c s

@@ -2,15 +2,19 @@
 use mathlib.Core.Path.{_≡_}
 use mathlib.Core.Bool.{Bool, true, false, cond}
 use mathlib.Core.List.{List}
-use Prim.Native.Nat.{ℕ, zero, suc, _+_, _≤_, _<_}
+use Prim.Native.Nat.{ℕ, zero, suc, _+_, _-_, _≤_, _<_}
 use lib.Dec.{ltb}
+use lib.ListN.{length}
 use Rattle.geometry.specs.declared.Extent.{Extent}
 use Rattle.lists.specs.Spans.{endOf}
 use Rattle.lists.specs.Cursors.{nextOf, fetchedOf}
 use Rattle.lists.specs.declared.cursors.Cursor.{Cursor}
 use Rattle.lists.specs.declared.cursors.Next.{Next}
 use Rattle.lists.specs.declared.cursors.Next.the-variants.{Ended, Visit, Take, Broken}
+use Rattle.commands.specs.Visits.{countOf}
 use Rattle.commands.specs.Steps.{Scene, scene, visitOf, visitsOf, takenOf}
+use Rattle.commands.specs.declared.Engine.{Engine}
+use Rattle.leaps.specs.declared.list_runs.Taken.{Taken}
 use Rattle.leaps.specs.declared.list_runs.Progress.{Progress}
 use Rattle.leaps.specs.declared.list_runs.ListRun.{ListRun}
 
@@ -25,8 +29,12 @@ abbrev pub reached : ListRun → List ℕ → List ℕ → Reached
 reached r d v = record { steps = r .steps; cursor = r .cursor; after = scene (r .engine) d v; broken = r .broken }
 
 -- The same but for what ended them.
+abbrev pub Reaches : ℕ → Cursor → Engine → List ℕ → List ℕ → Reached → Type 0
+Reaches steps cursor engine d v o =
+    _≡_ {A = Reached} (record { steps = steps; cursor = cursor; after = scene engine d v; broken = o .broken }) o
+
 abbrev pub GoesTo : Progress → List ℕ → List ℕ → Reached → Type 0
-GoesTo r d v o = _≡_ {A = Reached} (record { steps = r .steps; cursor = r .cursor; after = scene (r .engine) d v; broken = o .broken }) o
+GoesTo r d v o = Reaches (r .steps) (r .cursor) (r .engine) d v o
 
 abbrev pub stopped : Cursor → Scene → Bool → Reached
 stopped c s broken = record { steps = 0; cursor = c; after = s; broken = broken }
@@ -58,3 +66,19 @@ pub record VisitsDone (budget : ℕ) (extent : Extent) (s : Scene) (k : ℕ) (t 
   pub few : k ≤ budget
   pub visits : t ≡ visitsOf k extent s
   pub busy : (j : ℕ) → j < k → visitsOf j extent s .engine .«under_way» ≡ true
+
+-- k steps of a run are done, and the rest of it is that from here on.
+pub record Going (l : List ℕ) (extent : Extent) (budget : ℕ) (c₀ : Cursor) (s₀ : Scene) (k : ℕ) (c : Cursor) (s : Scene) : Type 0 where
+  pub under : k ≤ budget
+  pub span-same : c .span ≡ c₀ .span
+  pub display-long : length (s .display) ≡ length (s₀ .display)
+  pub virt-long : length (s .virt) ≡ length (s₀ .virt)
+  pub same : longer k (runFrom (budget - k) l extent c s) ≡ runFrom budget l extent c₀ s₀
+
+-- Entries taken within a run, which read and change no buffer: with a command under way, its count is told; with none, the run
+-- has ended.
+pub record EntriesTaken (l : List ℕ) (extent : Extent) (budget : ℕ) (c₀ : Cursor) (e₀ : Engine) (r : Taken) : Type 0 where
+  pub going : (d v : List ℕ) → Going l extent budget c₀ (scene e₀ d v) (r .steps) (r .cursor) (scene (r .engine) d v)
+  pub counted : r .engine .«under_way» ≡ true → r .count ≡ countOf extent (r .engine)
+  pub over : r .engine .«under_way» ≡ false → (d v : List ℕ)
+      → Reaches (r .steps) (r .cursor) (r .engine) d v (runFrom budget l extent c₀ (scene e₀ d v))

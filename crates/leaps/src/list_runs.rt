@@ -3,10 +3,12 @@ ghost use mathlib.Core.Path.{_≡_};
 ghost use mathlib.Core.Bool.{true};
 ghost use Prim.Native.Nat.{_<_};
 ghost use Rattle.lists.specs.Spans.{endOf};
+ghost use Rattle.commands.specs.Visits.{countOf};
 ghost use Rattle.commands.specs.Steps.{scene};
-ghost use Rattle.leaps.specs.ListRuns.{reached, GoesTo, runFrom, listRun, VisitsDone};
+ghost use Rattle.leaps.specs.ListRuns.{reached, GoesTo, runFrom, listRun, VisitsDone, EntriesTaken};
 use crate::visits::visit_counted;
 use commands::Engine;
+use entries::is_trigger;
 use geometry::Extent;
 use lists::Cursor;
 use lists::Next;
@@ -21,18 +23,96 @@ pub struct Burst {
     pub steps: u64,
 }
 
-// The pixels of the command under way, as many as the budget allows; one where its count says that none is left.
-fn visit_up_to(e: Engine, extent: Extent, budget: u64, display: &mut [u8], virt: &mut [u8]) -> Burst
-    requires { ⌜ (e .«under_way» ≡ true) × (0 < budget) ⌝ }
+// The pixels of the command under way, which visits `count`, as many as the budget allows; one where the count says that none
+// is left.
+fn visit_up_to(
+    e: Engine,
+    extent: Extent,
+    count: usize,
+    budget: u64,
+    display: &mut [u8],
+    virt: &mut [u8],
+) -> Burst
+    requires { ⌜ (e .«under_way» ≡ true) × (0 < budget) × (count ≡ countOf extent e) ⌝ }
     ensures { λ r. ⌜ VisitsDone budget extent (scene e (now (display .entry)) (now (virt .entry))) (r .steps) (scene (r .engine) (now (display .exit)) (now (virt .exit))) ⌝ }
 {
-    let count = e.count(extent);
     let left = max(1, saturating_sub(count, e.visited as usize));
     let n = min(budget as usize, left);
     Burst {
         engine: visit_counted(e, extent, count, n, display, virt),
         steps: n as u64,
     }
+}
+
+// Entries of a list, taken one after the other: the engine and the list after them, and the count of the command that is then
+// under way.
+pub struct Taken {
+    pub engine: Engine,
+    pub cursor: Cursor,
+    pub steps: u64,
+    pub count: usize,
+}
+
+// Entries after which no command is under way.
+fn resting(engine: Engine, cursor: Cursor, steps: u64) -> Taken
+    ensures { λ r. ⌜ r ≡ record { engine = engine; cursor = cursor; steps = steps; count = 0 } ⌝ }
+{
+    Taken {
+        engine,
+        cursor,
+        steps,
+        count: 0,
+    }
+}
+
+// Entries up to one that leaves a command under way, as many as the budget allows; none where one is under way.
+fn take_entries(start: Engine, extent: Extent, cursor: Cursor, budget: u64, list: &[u8]) -> Taken
+    requires { ⌜ endOf (cursor .span) < 4294967296 ⌝ }
+    ensures { λ r. ⌜ EntriesTaken (now (list .entry)) extent budget cursor start r ⌝ }
+{
+    if start.under_way {
+        return Taken {
+            engine: start,
+            cursor,
+            steps: 0,
+            count: start.count(extent),
+        };
+    }
+    let mut e = start;
+    let mut c = cursor;
+    let mut k: u64 = 0;
+    while k < budget {
+        match next_of(list, c, false) {
+            Next::Take(entry) => {
+                c.next = c.next + 1;
+                k = k + 1;
+                if is_trigger(entry.register) {
+                    let t = e.trigger(extent, entry.word);
+                    e = t.engine;
+                    if e.under_way {
+                        return Taken {
+                            engine: e,
+                            cursor: c,
+                            steps: k,
+                            count: t.count,
+                        };
+                    }
+                } else {
+                    e = e.take(extent, entry);
+                }
+            }
+            Next::Visit => {
+                return resting(e, c, k);
+            }
+            Next::Ended => {
+                return resting(e, c, k);
+            }
+            Next::Broken => {
+                return resting(e, c, k);
+            }
+        }
+    }
+    resting(e, c, k)
 }
 
 // Steps of a list: the engine and the list after them.
@@ -42,7 +122,7 @@ pub struct Progress {
     pub steps: u64,
 }
 
-// The steps of a list whose end fits 32 bits.
+// The steps of a list whose end fits 32 bits: entries up to a command, and then its pixels.
 fn run_from(
     start: Engine,
     extent: Extent,
@@ -59,32 +139,20 @@ fn run_from(
     let mut c = cursor;
     let mut k: u64 = 0;
     while k < budget {
-        match next_of(list, c, e.under_way) {
-            Next::Visit => {
-                let r = visit_up_to(e, extent, budget - k, display, virt);
-                e = r.engine;
-                k = k + r.steps;
-            }
-            Next::Take(entry) => {
-                e = e.take(extent, entry);
-                c.next = c.next + 1;
-                k = k + 1;
-            }
-            Next::Ended => {
-                return Progress {
-                    engine: e,
-                    cursor: c,
-                    steps: k,
-                };
-            }
-            Next::Broken => {
-                return Progress {
-                    engine: e,
-                    cursor: c,
-                    steps: k,
-                };
-            }
+        let r = take_entries(e, extent, c, budget - k, list);
+        e = r.engine;
+        c = r.cursor;
+        k = k + r.steps;
+        if (budget <= k) | !e.under_way {
+            return Progress {
+                engine: e,
+                cursor: c,
+                steps: k,
+            };
         }
+        let b = visit_up_to(e, extent, r.count, budget - k, display, virt);
+        e = b.engine;
+        k = k + b.steps;
     }
     Progress {
         engine: e,

@@ -15,7 +15,7 @@ use Rattle.packing.specs.Groups.{groupOf, countOf}
 use Rattle.packing.specs.Reports.{Report, report}
 use Rattle.packing.specs.Conversions.{passes, firstFailing, placed, wellFormed, judgedFrom}
 use Rattle.packing.specs.Conversions.{lastHasOne}
-use Rattle.packing.specs.Passes.{judgedPast, fullGroup, leading, onePresent, twoPresent, restSound}
+use Rattle.packing.specs.Passes.{judgedPast, wordLegal, fullGroup, leading, onePresent, twoPresent, restSound}
 use Rattle.packing.specs.declared.groups.Group.{Group}
 use Rattle.packing.proofs.Searches.{lead-over, lead-stops, lead-goes}
 use Rattle.packing.proofs.Judges.{closing-second, closing-third, count-least, count-most, judged-goes, judged-over, judged-start, none-fails}
@@ -52,7 +52,13 @@ pub four-all : (a b c d : Bool) → a ≡ true → b ≡ true → c ≡ true →
 four-all a b c d p q r s = rw (p, q, r, s)
 
 -- ---- full groups before the count
-module _ (x : Group) (h : fullGroup x ≡ true) where
+abbrev pub fullAt : List ℕ → ℕ → Bool
+fullAt l g = fullGroup (groupOf l g)
+
+module _ (l : List ℕ) (g : ℕ) (h : fullAt l g ≡ true) where
+  abbrev x : Group
+  x = groupOf l g
+
   abbrev four : (eqb (x .zero) 0 ≡ true) × (entryLegal (x .first) ≡ true) × (entryLegal (x .second) ≡ true) × (entryLegal (x .third) ≡ true)
   four = all-four (eqb (x .zero) 0) (entryLegal (x .first)) (entryLegal (x .second)) (entryLegal (x .third)) h
 
@@ -66,9 +72,6 @@ module _ (x : Group) (h : fullGroup x ≡ true) where
       (placed (x .third) (place + 2) count)
       (four .0) (legal-placed (x .first) place count (omega arith) (four .1))
       (legal-placed (x .second) (place + 1) count (omega arith) (four .2)) (legal-placed (x .third) (place + 2) count k (four .3)))
-
-abbrev pub fullAt : List ℕ → ℕ → Bool
-fullAt l g = fullGroup (groupOf l g)
 
 -- the search for them, of `most` groups, from group g on
 module _ (l : List ℕ) (most : ℕ) where
@@ -94,8 +97,8 @@ module _ (l : List ℕ) (count : ℕ) (sound : Bool) where
   one-full : (g : ℕ) → g < length l / 14 → 3 * g + 2 < count → fullAt l g ≡ true
       → judgedPast l count sound g ≡ judgedPast l count sound (g + 1)
   one-full g h k f =
-      judged-goes l count sound g h 3 (groupOf l g) true refl (full-passes (groupOf l g) f) (omega arith)
-      (full-formed (groupOf l g) f (3 * g) count k)
+      judged-goes l count sound g h 3 (groupOf l g) true refl (full-passes l g f) (omega arith)
+      (full-formed l g f (3 * g) count k)
       ∙ ap (λ (t : Bool). judgedFrom l count t (g + 1) (length l / 14 - (g + 1))) (and-true sound)
 
   pub lead-judged : (g n : ℕ) → g + n ≤ length l / 14 → 3 * (g + n) ≤ count
@@ -200,13 +203,13 @@ module _ (x : Group) where
   pub full-zero : (x .zero ≡ 0 → ⊥) → false ≡ fullGroup x
   full-zero h = rw (ne-eqb (x .zero) 0 h)
 
-  pub full-first : x .zero ≡ 0 → entryLegal (x .first) ≡ false → false ≡ fullGroup x
+  pub full-first : x .zero ≡ 0 → wordLegal (x .first) ≡ false → false ≡ fullGroup x
   full-first z a = rw (eq-eqb (x .zero) 0 z, a)
 
-  pub full-second : x .zero ≡ 0 → entryLegal (x .first) ≡ true → entryLegal (x .second) ≡ false → false ≡ fullGroup x
+  pub full-second : x .zero ≡ 0 → wordLegal (x .first) ≡ true → wordLegal (x .second) ≡ false → false ≡ fullGroup x
   full-second z a b = rw (eq-eqb (x .zero) 0 z, a, b)
 
-  pub full-third : x .zero ≡ 0 → entryLegal (x .first) ≡ true → entryLegal (x .second) ≡ true → entryLegal (x .third) ≡ fullGroup x
+  pub full-third : x .zero ≡ 0 → wordLegal (x .first) ≡ true → wordLegal (x .second) ≡ true → wordLegal (x .third) ≡ fullGroup x
   full-third z a b = rw (eq-eqb (x .zero) 0 z, a, b)
 
 module _ (l : List ℕ) (n from : ℕ) where

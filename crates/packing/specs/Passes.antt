@@ -5,7 +5,8 @@ use mathlib.Core.List.{List}
 use Prim.Native.Nat.{ℕ, zero, suc, _-_, _*_, _/_, _%_}
 use lib.Dec.{eqb, ltb}
 use lib.ListN.{length}
-use Rattle.entries.specs.Legality.{entryLegal}
+use Rattle.entries.specs.Legality.{dataLegal, entryLegal}
+use Rattle.entries.specs.declared.decoding.Entry.{Entry}
 use Rattle.packing.specs.Groups.{groupOf}
 use Rattle.packing.specs.Reports.{Report}
 use Rattle.packing.specs.Conversions.{judgedFrom}
@@ -15,9 +16,13 @@ use Rattle.packing.specs.declared.groups.Group.{Group}
 abbrev pub judgedPast : List ℕ → ℕ → Bool → ℕ → Report
 judgedPast l count sound g = judgedFrom l count sound g (length l / 14 - g)
 
--- Three legal entries, of which none is a 31, and the zero bit zero: before the count such a group is sound.
+-- Three legal entries, of which none is a 31, and the zero bit zero: before the count such a group is sound. A group has no spare
+-- bits, so register and word are judged alone.
+abbrev pub wordLegal : Entry → Bool
+wordLegal e = dataLegal (e .register) (e .word)
+
 abbrev pub fullGroup : Group → Bool
-fullGroup x = eqb (x .zero) 0 && entryLegal (x .first) && entryLegal (x .second) && entryLegal (x .third)
+fullGroup x = eqb (x .zero) 0 && wordLegal (x .first) && wordLegal (x .second) && wordLegal (x .third)
 
 -- The first place, of n from p on, at which a test fails, or the one past them.
 unfoldable pub leading : (ℕ → Bool) → ℕ → ℕ → ℕ

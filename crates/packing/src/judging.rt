@@ -13,6 +13,7 @@ use crate::groups::group_at;
 use crate::statuses::FileStatus;
 use entries::Entry;
 use entries::legal_at;
+use entries::legal_data;
 use entries::legal_entry;
 
 // The first illegal entry of an edition 1 list, entry by entry.
@@ -126,20 +127,20 @@ fn judge_groups(list: &[u8], count: usize, start: bool, from: usize) -> FileStat
     }
 }
 
-// Three legal entries, of which none is a 31, and the zero bit zero.
+// Three legal entries, of which none is a 31, and the zero bit zero. A group has no spare bits.
 fn full(x: Group) -> bool
     ensures { λ r. ⌜ r ≡ fullGroup x ⌝ }
 {
     if x.zero != 0 {
         return false;
     }
-    if !legal_entry(x.first.register, x.first.spare, x.first.word) {
+    if !legal_data(x.first.register, x.first.word) {
         return false;
     }
-    if !legal_entry(x.second.register, x.second.spare, x.second.word) {
+    if !legal_data(x.second.register, x.second.word) {
         return false;
     }
-    legal_entry(x.third.register, x.third.spare, x.third.word)
+    legal_data(x.third.register, x.third.word)
 }
 
 // How many groups are full before the first that is not, at most `most`.

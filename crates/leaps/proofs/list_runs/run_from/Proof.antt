@@ -1,15 +1,14 @@
--- The loop's invariant is `Going`: k steps are done, and the rest of the run is that from here. A turn is many visits,
--- or one entry; the measure is what is left of the budget. The next entry's number does not wrap, as the list's end
--- fits 32 bits (`going-room`).
-use Rattle.leaps.proofs.Running.{Going, going-start, going-visits, going-takes, going-room, going-stops, going-spent, goes-to}
-use Rattle.lists.proofs.Fetches.{chosen}
-use Rattle.lists.specs.declared.cursors.Next.the-variants.{Ended, Visit, Broken}
-use Rattle.commands.specs.Steps.{scene}
-use native.Mathlib.Omega.{arith}
+-- The loop's invariant is `Going`: k steps are done, and the rest of the run is that from here. A turn is the entries up to a
+-- command (`entries-going`) and many of its visits (`going-visits`); the measure is what is left of the budget.
+use mathlib.Core.Bool.{false}
+use mathlib.Core.List.{[]}
+use mathlib.Core.Path.{ap, _∙_}
 use Prim.Native.Nat.{_-_}
-use mathlib.Core.Bool.{true, false}
-use mathlib.Core.Path.{refl, sym, _∙_}
-use borrow.Author.Needs.{needs}
+use native.Mathlib.Omega.{arith}
+use Rattle.lists.specs.Spans.{endOf}
+use Rattle.commands.specs.Steps.{scene}
+use Rattle.leaps.specs.ListRuns.{Going}
+use Rattle.leaps.proofs.Running.{going-start, going-visits, going-spent, reaches, entries-going, entries-end, entries-left, entries-busy}
 use Rattle.leaps.proofs.list_runs.run_from.Statement.{statement}
 use Rattle.leaps.proofs.list_runs.run_from.Tie as tie
 
@@ -23,113 +22,78 @@ abbrev μ-loop : tie.MeasureT-loop
 loop-holds : tie.Need-loop-holds Inv-loop μ-loop
 loop-holds c = going-start _ _ _ _ _
 
-next-of-requires : tie.Need-next-of-requires Inv-loop μ-loop
-next-of-requires c κs = search needs
+sub-take-entries : tie.Need-sub-take-entries Inv-loop μ-loop
+sub-take-entries c = omega arith
 
-enum-told : tie.Need-enum-told Inv-loop μ-loop
-enum-told c = search needs
-
-sub-visit-up-to : tie.Need-sub-visit-up-to Inv-loop μ-loop
-sub-visit-up-to c = omega arith
-
-visit-up-to-requires : tie.Need-visit-up-to-requires Inv-loop μ-loop
-visit-up-to-requires c κs =
-    let told = c .before .before in
-    let o = told .before .before in
-    let i = o .before in
-    (chosen _ _ _ Visit (sym (o .next-of .ensures) ∙ told .enum-told .given .1), omega (arith, i .loop-test .taken))
+take-entries-requires : tie.Need-take-entries-requires Inv-loop μ-loop
+take-entries-requires c κs =
+    let same = ap endOf (c .before .loop .inv .span-same) in
+    omega (arith, same, c .before .before .before .before .before .pre)
 
 add-k : tie.Need-add-k Inv-loop μ-loop
 add-k c =
-    let o = c .before .before .before .before .before .before in
-    let i = o .before .before .before .before .before .before in
-    omega (arith, o .visit-up-to .ensures .few, i .loop-test .taken, i .before .before .before .before .before .fits .budget)
-
-loop-less : tie.Need-loop-less Inv-loop μ-loop
-loop-less c =
-    let o = c .before .before .before .before .before .before in
-    let i = o .before .before .before .before .before .before in
-    omega (arith, o .visit-up-to .ensures .some, o .visit-up-to .ensures .few, i .loop-test .taken)
-
-loop-again : tie.Need-loop-again Inv-loop μ-loop
-loop-again c =
-    let o = c .before .before .before .before .before .before in
-    let i = o .before .before .before .before .before .before in
-    going-visits _ _ _ _ _ _ _ _ (i .loop-test .taken) (i .before .loop .inv) _ _ (o .visit-up-to .ensures) (o .visit-up-to .kept .1 .1 .1 .0)
-    (o .visit-up-to .kept .1 .1 .1 .1 .0)
-
-enum-known-entry : tie.Need-enum-known-entry Inv-loop μ-loop
-enum-known-entry c = search needs
-
-take-requires : tie.Need-take-requires Inv-loop μ-loop
-take-requires c κs = search needs
-
-add-c : tie.Need-add-c Inv-loop μ-loop
-add-c c =
-    let told = c .before .before .before in
-    let o = told .before .before in
-    let i = o .before in
-    let room = going-room _ _ _ _ _ _ _ _ (i .loop-test .taken) (i .before .loop .inv) (i .before .before .before .before .before .pre) _
-    (sym (o .next-of .ensures) ∙ told .entry .given .1) in
-    omega (arith, room)
-
-add-k-2 : tie.Need-add-k-2 Inv-loop μ-loop
-add-k-2 c =
-    let i = c .before .before .before .before .before .before in
-    omega (arith, i .loop-test .taken, i .before .before .before .before .before .fits .budget)
-
-loop-less-2 : tie.Need-loop-less-2 Inv-loop μ-loop
-loop-less-2 c =
-    let i = c .before .before .before .before .before .before in
-    omega (arith, i .loop-test .taken)
-
-loop-again-2 : tie.Need-loop-again-2 Inv-loop μ-loop
-loop-again-2 c =
-    let told = c .before .before .before in
-    let o = told .before .before in
-    let i = o .before in
-    going-takes _ _ _ _ _ _ _ _ (i .loop-test .taken) (i .before .loop .inv) _ (sym (o .next-of .ensures) ∙ told .entry .given .1) _ (c .before .take .ensures)
-
-enum-told-2 : tie.Need-enum-told-2 Inv-loop μ-loop
-enum-told-2 c = search needs
+    let r = c .before .before .before in
+    let i = r .before in
+    omega (arith, r .take-entries .ensures .going [] [] .under, i .loop-test .taken, i .before .before .before .before .before .fits .budget)
 
 same-length : tie.Need-same-length Inv-loop μ-loop
-same-length c = c .before .before .before .before .loop .inv .display-long
+same-length c = c .before .before .before .before .before .before .before .loop .inv .display-long
 
 same-length-2 : tie.Need-same-length-2 Inv-loop μ-loop
-same-length-2 c = c .before .before .before .before .loop .inv .virt-long
+same-length-2 c = c .before .before .before .before .before .before .before .loop .inv .virt-long
 
 returns : tie.Need-returns Inv-loop μ-loop
 returns c =
-    let o = c .before .before in
-    let i = o .before in
-    goes-to _ _ _ false _
-    (going-stops _ _ _ _ _ _ _ _ (i .loop-test .taken) (i .before .loop .inv) Ended false (sym (o .next-of .ensures) ∙ c .enum-told2 .given .1) (λ _ _. refl))
+    let r = c .before .before .before .before .before in
+    entries-end _ _ _ _ _ _ _ _ _ _ (r .before .before .loop .inv) _ (r .take-entries .ensures) (c .if1 .taken)
 
-enum-told-3 : tie.Need-enum-told-3 Inv-loop μ-loop
-enum-told-3 c = search needs
+sub-visit-up-to : tie.Need-sub-visit-up-to Inv-loop μ-loop
+sub-visit-up-to c =
+    let r = c .before .before .before .before .before in
+    omega (arith, entries-left _ _ _ _ _ _ _ _ _ _ (r .before .before .loop .inv) _ (r .take-entries .ensures) (c .if1 .left))
+
+visit-up-to-requires : tie.Need-visit-up-to-requires Inv-loop μ-loop
+visit-up-to-requires c κs =
+    let o = c .before .before in
+    let r = o .before .before .before .before .before in
+    let left = entries-left _ _ _ _ _ _ _ _ _ _ (r .before .before .loop .inv) _ (r .take-entries .ensures) (o .if1 .left) in
+    let busy = entries-busy _ _ _ _ _ _ _ _ _ _ (r .before .before .loop .inv) _ (r .take-entries .ensures) (o .if1 .left) in
+    (busy, omega (arith, left), r .take-entries .ensures .counted busy)
+
+add-k-2 : tie.Need-add-k-2 Inv-loop μ-loop
+add-k-2 c =
+    let b = c .before .before .before .before .before .before in
+    let o = b .before .before .before in
+    let r = o .before .before .before .before .before in
+    let left = entries-left _ _ _ _ _ _ _ _ _ _ (r .before .before .loop .inv) _ (r .take-entries .ensures) (o .if1 .left) in
+    omega (arith, left, b .visit-up-to .ensures .few, r .before .before .before .before .before .before .fits .budget)
+
+loop-less : tie.Need-loop-less Inv-loop μ-loop
+loop-less c =
+    let b = c .before .before .before .before .before .before in
+    let o = b .before .before .before in
+    let r = o .before .before .before .before .before in
+    let left = entries-left _ _ _ _ _ _ _ _ _ _ (r .before .before .loop .inv) _ (r .take-entries .ensures) (o .if1 .left) in
+    omega (arith, left, b .visit-up-to .ensures .some, b .visit-up-to .ensures .few)
+
+loop-again : tie.Need-loop-again Inv-loop μ-loop
+loop-again c =
+    let b = c .before .before .before .before .before .before in
+    let o = b .before .before .before in
+    let r = o .before .before .before .before .before in
+    let inv = r .before .before .loop .inv in
+    let taken = r .take-entries .ensures in
+    going-visits _ _ _ _ _ _ _ _ (entries-left _ _ _ _ _ _ _ _ _ _ inv _ taken (o .if1 .left)) (entries-going _ _ _ _ _ _ _ _ _ _ inv _ taken) _ _
+    (b .visit-up-to .ensures) (b .visit-up-to .kept .1 .1 .1 .1 .0) (b .visit-up-to .kept .1 .1 .1 .1 .1 .0)
 
 same-length-3 : tie.Need-same-length-3 Inv-loop μ-loop
-same-length-3 c = c .before .before .before .before .loop .inv .display-long
+same-length-3 c = c .before .loop .inv .display-long
 
 same-length-4 : tie.Need-same-length-4 Inv-loop μ-loop
-same-length-4 c = c .before .before .before .before .loop .inv .virt-long
+same-length-4 c = c .before .loop .inv .virt-long
 
 returns-2 : tie.Need-returns-2 Inv-loop μ-loop
-returns-2 c =
-    let o = c .before .before in
-    let i = o .before in
-    goes-to _ _ _ true _
-    (going-stops _ _ _ _ _ _ _ _ (i .loop-test .taken) (i .before .loop .inv) Broken true (sym (o .next-of .ensures) ∙ c .enum-told3 .given .1) (λ _ _. refl))
-
-same-length-5 : tie.Need-same-length-5 Inv-loop μ-loop
-same-length-5 c = c .before .loop .inv .display-long
-
-same-length-6 : tie.Need-same-length-6 Inv-loop μ-loop
-same-length-6 c = c .before .loop .inv .virt-long
-
-returns-3 : tie.Need-returns-3 Inv-loop μ-loop
-returns-3 c = goes-to _ _ _ false _ (going-spent _ _ _ _ _ _ _ _ (c .loop-test .left) (c .before .loop .inv))
+returns-2 c = reaches _ _ _ _ _ false _ (going-spent _ _ _ _ _ _ _ _ (c .loop-test .left) (c .before .loop .inv))
 
 pub run-from-spec : {M : Type 1} → statement M
 run-from-spec =
@@ -138,27 +102,17 @@ run-from-spec =
     Inv-loop
     μ-loop
     loop-holds
-    next-of-requires
-    enum-told
-    sub-visit-up-to
-    visit-up-to-requires
+    sub-take-entries
+    take-entries-requires
     add-k
-    loop-less
-    loop-again
-    enum-known-entry
-    take-requires
-    add-c
-    add-k-2
-    loop-less-2
-    loop-again-2
-    enum-told-2
     same-length
     same-length-2
     returns
-    enum-told-3
+    sub-visit-up-to
+    visit-up-to-requires
+    add-k-2
+    loop-less
+    loop-again
     same-length-3
     same-length-4
-    returns-2
-    same-length-5
-    same-length-6
-    returns-3)
+    returns-2)

@@ -8,9 +8,6 @@ use borrow.Author.Needs.{needs}
 use Rattle.leaps.proofs.list_runs.visit_up_to.Statement.{statement}
 use Rattle.leaps.proofs.list_runs.visit_up_to.Tie as tie
 
-count-requires : tie.Need-count-requires
-count-requires c κs = search needs
-
 cast-saturating-sub : tie.Need-cast-saturating-sub
 cast-saturating-sub c = search needs
 
@@ -37,18 +34,16 @@ returns c =
     let done = c .before .before .before .before in
     let few = done .before .before .before in
     let left = few .before in
-    let counted = left .before .before .before in
-    let start = counted .before .before .before in
+    let start = left .before .before .before .before .before in
     let s = start .args in
     visits-done (s .budget) (s .extent) (scene (s .e) (s .display .now) (s .virt .now)) _ _ _ (start .pre .0) (start .pre .1)
-    (left .max .ensures ∙ ap (max 1) (left .before .saturating-sub .ensures ∙ ap (λ n. n - s .e .visited) (counted .count .ensures)))
+    (left .max .ensures ∙ ap (max 1) (left .before .saturating-sub .ensures ∙ ap (λ n. n - s .e .visited) (start .pre .2)))
     (few .min .ensures) (done .visit-counted .ensures)
 
 pub visit-up-to-spec : {M : Type 1} → statement M
 visit-up-to-spec =
     tie.close
     (tie.spec
-    count-requires
     cast-saturating-sub
     saturating-sub-requires
     max-requires

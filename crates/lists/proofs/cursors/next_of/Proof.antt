@@ -48,8 +48,8 @@ returns-3 c =
     let o = at .before .before in
     next-read _ _ _ (o .before .before .before .if1 .left) (more o) _ _ (at .entry-at .ensures) (c .enum-told .given .1)
 
-legal-entry-requires : tie.Need-legal-entry-requires
-legal-entry-requires c κs = search needs
+legal-fetched-requires : tie.Need-legal-fetched-requires
+legal-fetched-requires c κs = search needs
 
 -- the entry that was read decides
 read : (c : tie.After-fetched) →
@@ -61,10 +61,10 @@ read c =
     next-read _ _ _ (o .before .before .before .if1 .left) (more o) _ _ (at .entry-at .ensures) (c .fetched .given .1)
 
 returns-4 : tie.Need-returns-4
-returns-4 c = rw (← c .before .legal-entry .ensures, c .if3 .taken) at (read (c .before .before .before))
+returns-4 c = rw (← c .before .legal-fetched .ensures, c .if3 .taken) at (read (c .before .before .before))
 
 returns-5 : tie.Need-returns-5
-returns-5 c = rw (← c .before .legal-entry .ensures, c .if3 .left) at (read (c .before .before .before))
+returns-5 c = rw (← c .before .legal-fetched .ensures, c .if3 .left) at (read (c .before .before .before))
 
 pub next-of-spec : {M : Type 1} → statement M
 next-of-spec =
@@ -79,6 +79,6 @@ next-of-spec =
     enum-known-fetched
     enum-told
     returns-3
-    legal-entry-requires
+    legal-fetched-requires
     returns-4
     returns-5)
