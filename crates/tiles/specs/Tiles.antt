@@ -101,6 +101,10 @@ pub record Sized (t : Tile) : Type 0 where
 abbrev pub NoneIsNoFill : Type 0
 NoneIsNoFill = (isNone noFill ≡ true) × ((f : Fill) → Sized (f .tile) → isNone f ≡ true → f ≡ noFill)
 
--- Sixteen bytes of the doubled tile are its row y from column x on, and round; proved in proofs/Doubling.antt.
-abbrev pub RowsOfDoubled : Type 0
-RowsOfDoubled = (t : Tile) (x y k : ℕ) → getD (doubledOf t) (32 * (y % 8) + x % 16 + k % 16) 0 ≡ pixelOf t (x + k) y
+-- Each row is there twice, so that sixteen bytes from any column of the first on are the row, and round; proved in
+-- proofs/Doubling.antt.
+abbrev pub RowsTwice : Type 0
+RowsTwice =
+    (t : Tile) (x y : ℕ)
+    → (getD (doubledOf t) (32 * (y % 8) + x % 16) 0 ≡ pixelOf t x y)
+    × (getD (doubledOf t) (32 * (y % 8) + 16 + x % 16) 0 ≡ pixelOf t x y)
