@@ -19,6 +19,9 @@ round-none from d e =
     let whole : 256 * (from / 256) + from % 256 ≡ from = div-add-mod from 256 in
     rw same (omega (arith, whole))
 
+pub round-below : (from d : ℕ) → from < 256 → round from d ≡ (from + d) % 256
+round-below from d h = let none : from / 256 ≡ 0 = div-eq-of-lt h in rw none (omega arith)
+
 -- numbers that are whole rounds apart
 apart : (n a b x : ℕ) → (n * a + x) % n ≡ (n * b + x) % n
 apart n a b x = mul-add-mod-self-left n a x ∙ sym (mul-add-mod-self-left n b x)
@@ -46,11 +49,10 @@ rows-round y i c small =
     let v-small : v < 8 = mod-lt (j + c) (omega arith) in
     let split : 8 * u + v ≡ j + c = div-add-mod (j + c) 8 in
     let whole : 8 * (y / 8) + j ≡ y = div-add-mod y 8 in
-    let none : (32 * j + i) / 256 ≡ 0 = ap (λ x. x / 256) (let e : 32 * j + i ≡ 256 * 0 + (32 * j + i) = omega arith in e) ∙ at-row 256 0 (32 * j + i) (omega arith) in
     let place : 32 * j + i + 32 * c ≡ 256 * u + (32 * v + i) = omega (arith, split) in
     let row : y + c ≡ 8 * (y / 8) + (j + c) = omega (arith, whole) in
     let same : (y + c) % 8 ≡ v = ap (λ x. x % 8) row ∙ mul-add-mod-self-left 8 (y / 8) (j + c) in
-    rw (none, place, at-column 256 u (32 * v + i) (omega arith), same) (omega arith)
+    round-below (32 * j + i) (32 * c) (omega arith) ∙ rw (place, at-column 256 u (32 * v + i) (omega arith), same)
 
 -- a pixel's place is in the first half of a row
 pub place-fits : (y x : ℕ) → TileFits (32 * (y % 8) + x % 16)
@@ -69,18 +71,15 @@ module _ (up : Bool) (from step : ℕ) (f : TileFits from) (e : step ≡ cond up
       by false = omega arith
 
   pub next-is : (from + step) % 256 ≡ round from (cond up (7 * 32) 32)
-  next-is =
-      let none : from / 256 ≡ 0 = div-eq-of-lt (f .inside) in
-      rw (← e, none) (omega arith)
+  next-is = ap (λ s. (from + s) % 256) e ∙ sym (round-below from (cond up (7 * 32) 32) (f .inside))
 
   in-rows : (c : ℕ) → step ≡ 32 * c → (from + step) % 256 ≡ 32 * ((from / 32 + c) % 8) + from % 32
   in-rows c s =
       let row : 32 * (from / 32) + from % 32 ≡ from = div-add-mod from 32 in
       let few : from / 32 < 8 = omega (arith, f .inside, row) in
       let here : 32 * (from / 32 % 8) + from % 32 ≡ from = ap (λ j. 32 * j + from % 32) (mod-eq-of-lt few) ∙ row in
-      let none : from / 256 ≡ 0 = div-eq-of-lt (f .inside) in
-      ap (λ s. (from + s) % 256) s ∙ sym (ap (λ a. a * 256 + (from + 32 * c) % 256) none ∙ (let z : 0 * 256 + (from + 32 * c) % 256 ≡ (from + 32 * c) % 256 = omega arith in z))
-      ∙ ap (λ x. round x (32 * c)) (sym here) ∙ rows-round (from / 32) (from % 32) c (omega (arith, f .first-half))
+      ap (λ s. (from + s) % 256) s ∙ sym (round-below from (32 * c) (f .inside)) ∙ ap (λ x. round x (32 * c)) (sym here)
+      ∙ rows-round (from / 32) (from % 32) c (omega (arith, f .first-half))
 
   pub next-fits : TileFits ((from + step) % 256)
   next-fits = by up e

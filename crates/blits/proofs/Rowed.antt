@@ -116,7 +116,9 @@ module _ {paint : Paint} {back up : Bool} {width stride : ℕ} {other : List ℕ
   module _ (h : k < rows) where
     -- where pixels are read
     pub source-here : reads paint ≡ true → source ≡ away up from (stride * k)
-    source-here u = r .there (reads-place paint u) h ∙ sym (second-of (isTiled paint) (round from (cond up (7 * (stride * k)) (stride * k))) (away up from (stride * k)) (reads-buffer paint u))
+    source-here u =
+        let d = stride * k in
+        r .there (reads-place paint u) h ∙ sym (second-of (isTiled paint) (round from (cond up (7 * d) d)) (away up from d) (reads-buffer paint u))
 
     -- the row, and its source, end within their buffers
     pub row-inside : to + n ≤ length t

@@ -12,7 +12,8 @@ use Rattle.blits.specs.declared.ranges.Range.{Range}
 use Rattle.blits.specs.Blits.{painted, reads, isTiled, sourcePixels, Lent}
 use Rattle.blits.specs.Places.{placeAt, startAt}
 
--- A tile goes round: the place in its row that a row which begins at `from` reads as place x, and the place d bytes down or up.
+-- A tile goes round: what stands for place x in the row of the place `from`, and the place d bytes below `from`, or above it,
+-- which is 7 d below for whole rows.
 abbrev pub wrapped : Paint → ℕ → ℕ → ℕ
 wrapped paint from x = cond (isTiled paint) (from / 32 * 32 + x % 16) x
 
@@ -38,7 +39,7 @@ pub record RowsFit (up : Bool) (width at n rows own : ℕ) : Type 0 where
   pub above : up ≡ true → (k : ℕ) → k < rows → width * k ≤ at
   pub far : at + width * rows < 18446744073709551616
 
--- What a place in a tile is: in the first half of a row.
+-- Where a row of a tile may begin: in the first of the two copies of a row.
 pub record TileFits (from : ℕ) : Type 0 where
   pub inside : from < 256
   pub first-half : from % 32 < 16

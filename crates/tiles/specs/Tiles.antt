@@ -55,7 +55,7 @@ unfoldable pub fillOf : Extent → ℕ → List ℕ → Fill
 fillOf extent corner buffer =
     cond (wholeAt extent corner) (filledWith (tileOf buffer (extent .width) (placeIn (extent .width) (pointOf corner)))) noFill
 
--- Whether zeros are held.
+-- Whether a test passes at every number below n; and whether zeros are held.
 abbrev pub allBelow : ℕ → (ℕ → Bool) → Bool
 allBelow n test = inTurn (λ k passed. passed && test k) n true
 
