@@ -1,23 +1,22 @@
 -- The tile that an entry takes, by the tests that it passes; and that what is held is what a record may hold, after every entry and
 -- every visit.
 -- Assumes nothing.
-use mathlib.Core.Path.{_≡_, refl, ap, ap₂, sym, subst, _∙_}
+use mathlib.Core.Path.{_≡_, refl, ap, ap₂, sym, _∙_}
 use mathlib.Core.Bool.{Bool, true, false, cond, _&&_}
 use mathlib.Core.List.{List}
 use Prim.Native.Nat.{ℕ}
 use Rattle.lemmas.specs.Turns.{inTurn}
 use Rattle.lemmas.proofs.Booleans.{first-of, second-of}
 use Rattle.geometry.specs.declared.Extent.{Extent}
-use Rattle.entries.specs.declared.decoding.Entry.{Entry}
 use Rattle.entries.specs.declared.fields.Command.{Command}
-use Rattle.registers.specs.declared.file.Registers.{Registers}
 use Rattle.tiles.specs.Tiles.{wholeAt, noFill, filledWith, fillOf, isNone}
 use Rattle.tiles.specs.declared.Fill.{Fill}
 use Rattle.tiles.specs.declared.Tile.{Tile}
+use Rattle.tiles.proofs.Pixels.{none-is-no-fill}
 use Rattle.commands.specs.Visits.{commandIn, shows}
-use Rattle.commands.specs.Hatching.{hatches, fillTaken, fillAfter}
-use Rattle.commands.specs.Steps.{Scene, advancedOf, visitBy, visitOf, takenOf}
-use Rattle.commands.specs.Record.{holdsTile, fillOk, VisitsKeepFill, EntriesKeepFill}
+use Rattle.commands.specs.Hatching.{hatches, fillTaken}
+use Rattle.commands.specs.Steps.{advancedOf, visitBy, takenOf}
+use Rattle.commands.specs.Record.{holdsTile, fillOk, NoFillElsewhere, VisitsKeepFill, EntriesKeepFill}
 use Rattle.commands.specs.declared.Engine.{Engine}
 use Rattle.commands.proofs.Visiting.{advanced-registers}
 
@@ -41,6 +40,10 @@ module _ (extent : Extent) (e : Engine) (f : Fill) (t u : Bool) (p : t ≡ hatch
 
   pub ok-none : (t && u) ≡ false → isNone f ≡ fillOk extent e f
   ok-none h = second-of (holdsTile extent e) (f .whole) (isNone f) (sym (ap₂ _&&_ p q) ∙ h)
+
+pub no-fill-elsewhere : NoFillElsewhere
+no-fill-elsewhere extent e f sized ok h =
+    none-is-no-fill .1 f sized (second-of (holdsTile extent e) (f .whole) (isNone f) h ∙ ok)
 
 -- after an entry, by the three tests
 taken-by : (under apat whole : Bool) (t : Tile) →

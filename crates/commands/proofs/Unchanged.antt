@@ -1,7 +1,7 @@
 -- A blit by the cells that show leaves what it leaves by all of them, since the others draw nothing; so whole lists leave the
 -- same by either rule.
 -- Assumes nothing.
-use mathlib.Core.Path.{_≡_, refl, ap, ap₂, sym, subst, _∙_}
+use mathlib.Core.Path.{_≡_, refl, ap, ap₂, sym, _∙_}
 use mathlib.Core.Bool.{Bool, true, false, not, cond, _&&_, _||_, false≢true}
 use mathlib.Core.List.{List, [], _∷_, foldl}
 use Prim.Native.Nat.{ℕ, zero, suc, _+_, _-_, _<_}
@@ -11,7 +11,7 @@ use lib.Dec.{eqb, ltb}
 use lib.ListN.{length, getD}
 use Rattle.lemmas.specs.Turns.{inTurn}
 use Rattle.lemmas.specs.Numbers.{filtered}
-use Rattle.lemmas.proofs.Booleans.{by-cases, first-of, of-either}
+use Rattle.lemmas.proofs.Booleans.{by-cases, of-either}
 use Rattle.lemmas.proofs.Turns.{turn-agree, turn-join}
 use Rattle.geometry.specs.Coordinates.{pointOf}
 use Rattle.geometry.specs.Clip.{inBuffer, placeOf, placeIn}
@@ -30,9 +30,9 @@ use Rattle.sources.specs.declared.Source.the-variants.{Value, Nothing}
 use Rattle.sources.proofs.Reading.{source-solid, source-blit}
 use Rattle.tiles.specs.Tiles.{noFill}
 use Rattle.tiles.specs.declared.Fill.{Fill}
-use Rattle.commands.specs.Visits.{commandIn, clippedOut, Rule, shows, every, cellsBy, countBy, cellBy, positionOf, throughTo, targetFrom, sourceFrom}
+use Rattle.commands.specs.Visits.{commandIn, clippedOut, Rule, shows, every, cellsBy, countBy, cellBy, throughTo, targetFrom, sourceFrom}
 use Rattle.commands.specs.Hatching.{fillTaken, fillAfter}
-use Rattle.commands.specs.Steps.{Scene, scene, inked, inkedAt, patternAfter, advancedBy, visitBy, visitsBy, patternSet, finishes, withWord, triggeredBy, enteredBy, takenBy}
+use Rattle.commands.specs.Steps.{Scene, scene, inked, patternAfter, advancedBy, visitBy, visitsBy, patternSet, withWord, triggeredBy, enteredBy, takenBy}
 use Rattle.commands.specs.Wholes.{pixelsLeft, finishedBy, doneBy}
 use Rattle.commands.specs.Shown.{OthersKeep, PictureUnchanged}
 use Rattle.commands.specs.declared.Engine.{Engine}

@@ -1,12 +1,12 @@
 -- The engine and the fill in a board record, and when they are malformed (01, What the host hears; 02, R-7).
 use mathlib.Core.Path.{_≡_}
-use mathlib.Core.Bool.{Bool, true, cond, _&&_}
+use mathlib.Core.Bool.{Bool, true, false, cond, _&&_}
 use lib.Dec.{eqb, ltb}
 use Rattle.geometry.specs.declared.Extent.{Extent}
 use Rattle.entries.specs.Legality.{entryLegal}
 use Rattle.entries.specs.declared.decoding.Entry.{Entry}
 use Rattle.registers.specs.States.{stateOk}
-use Rattle.tiles.specs.Tiles.{wholeAt, isNone}
+use Rattle.tiles.specs.Tiles.{wholeAt, noFill, isNone, Sized}
 use Rattle.tiles.specs.declared.Fill.{Fill}
 use Rattle.commands.specs.Visits.{countOf}
 use Rattle.commands.specs.Hatching.{hatches}
@@ -29,6 +29,12 @@ holdsTile extent e = hatches e && wholeAt extent (e .registers .xy0)
 
 abbrev pub fillOk : Extent → Engine → Fill → Bool
 fillOk extent e fill = cond (holdsTile extent e) (fill .whole) (isNone fill)
+
+-- Elsewhere there is no fill, for a tile of the sizes that its type says; proved in proofs/Held.antt.
+abbrev pub NoFillElsewhere : Type 0
+NoFillElsewhere =
+    (extent : Extent) (e : Engine) (fill : Fill) → Sized (fill .tile) → fillOk extent e fill ≡ true → holdsTile extent e ≡ false
+    → fill ≡ noFill
 
 -- A step keeps the engine well formed; proved in proofs/Sound.antt.
 abbrev pub VisitsStayOk : Type 0

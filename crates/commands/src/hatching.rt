@@ -1,4 +1,4 @@
-// The tile of a fill: what is taken at the trigger, what is left of it, and what a record may hold.
+// The tile of a fill: taken at the trigger, kept until the last pixel, and judged in a record.
 ghost use mathlib.Core.Path.{_≡_};
 ghost use Rattle.commands.specs.Hatching.{hatches, fillTaken, fillAfter};
 ghost use Rattle.commands.specs.Record.{fillOk};
@@ -21,7 +21,7 @@ impl Engine {
         self.under_way & c.apat
     }
 
-    // What an entry takes that left this engine.
+    // What an entry takes, which left this engine: the tile at XY0 in the source buffer, for a fill with one.
     pub fn fill_taken(self, extent: Extent, display: &[u8], virt: &[u8]) -> Fill
         ensures { λ r. ⌜ r ≡ fillTaken extent self (now (display .entry)) (now (virt .entry)) ⌝ }
     {
@@ -36,7 +36,7 @@ impl Engine {
         tile_at(display, extent, g.xy0)
     }
 
-    // What a visit leaves of the fill that left this engine.
+    // What is held after a visit, which left this engine.
     pub fn fill_after(self, fill: Fill) -> Fill
         ensures { λ r. ⌜ r ≡ fillAfter self fill ⌝ }
     {

@@ -28,8 +28,10 @@ pub fn legal_cmd(word: u32) -> bool
     ensures { λ r. ⌜ r ≡ cmdLegal word ⌝ }
 {
     let c = command_of(word);
-    (word == 0)
-        | ((word % 16384 == 0) & (c.is_blit() & legal_blit(c) | c.is_line() & legal_line(c)))
+    if c.is_blit() {
+        return (word % 16384 == 0) & legal_blit(c);
+    }
+    (word == 0) | ((word % 16384 == 0) & (c.is_line() & legal_line(c)))
 }
 
 pub fn legal_pctrl(word: u32) -> bool

@@ -1,8 +1,8 @@
 -- The doubled tile: put together row by row, and read row by row.
 -- Assumes nothing.
-use mathlib.Core.Path.{_≡_, refl, ap, sym, _∙_}
+use mathlib.Core.Path.{_≡_, ap, _∙_}
 use mathlib.Core.List.{List}
-use Prim.Native.Nat.{ℕ, _+_, _-_, _*_, _/_, _%_, _≤_, _<_}
+use Prim.Native.Nat.{ℕ, _+_, _-_, _*_, _/_, _%_, _<_}
 use native.Mathlib.Omega.{arith}
 use borrow.Author.Tests.{ltb-true, ltb-false}
 use lib.Dec.{ltb}
@@ -12,7 +12,7 @@ use Rattle.lemmas.proofs.Booleans.{by-cases}
 use Rattle.lemmas.proofs.Numbers.{map-below-at}
 use Rattle.lemmas.proofs.Filling.{Filled}
 use Rattle.lemmas.proofs.Sweeps.{sweep-length, sweep-stays, sweep-wrote}
-use Rattle.tiles.specs.Tiles.{noRow, pixelOf, RowsOfDoubled}
+use Rattle.tiles.specs.Tiles.{noRow, pixelOf, RowsTwice}
 use Rattle.tiles.specs.declared.Tile.{Tile}
 
 -- byte i of the doubled tile
@@ -55,8 +55,10 @@ row-twice t j l m r small x em er =
     (half-more t j (32 * j + 16) m r small (omega arith) (omega arith)
     (half-more t j (32 * j) l m small (omega arith) (omega arith) x em) er)
 
-pub rows-of-doubled : RowsOfDoubled
-rows-of-doubled t x y k =
-    let i = 32 * (y % 8) + x % 16 + k % 16 in
-    map-below-at (doubledAt t) 256 0 i (omega arith)
-    ∙ in-row t (i / 32 % 8) (i % 16) (x + k) y (omega arith) (omega arith)
+pub rows-twice : RowsTwice
+rows-twice t x y =
+    let i = 32 * (y % 8) + x % 16 in
+    let j = 32 * (y % 8) + 16 + x % 16 in (
+      map-below-at (doubledAt t) 256 0 i (omega arith) ∙ in-row t (i / 32 % 8) (i % 16) x y (omega arith) (omega arith),
+      map-below-at (doubledAt t) 256 0 j (omega arith) ∙ in-row t (j / 32 % 8) (j % 16) x y (omega arith) (omega arith),
+    )

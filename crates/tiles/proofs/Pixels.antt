@@ -1,7 +1,7 @@
 -- The pixels of a tile, and of none.
 -- Assumes nothing.
-use mathlib.Core.Path.{_≡_, refl, ap, ap₂, sym, _∙_}
-use mathlib.Core.Bool.{Bool, true, false, not, _&&_}
+use mathlib.Core.Path.{_≡_, refl, ap, sym, _∙_}
+use mathlib.Core.Bool.{Bool, true, not}
 use mathlib.Core.List.{List, map}
 use Prim.Native.Nat.{ℕ, zero, suc, _+_, _-_, _*_, _%_, _≤_, _<_}
 use native.Mathlib.Nat.{add-mul}
@@ -18,7 +18,7 @@ use Rattle.lemmas.proofs.Numbers.{map-below-at}
 use Rattle.geometry.specs.Coordinates.{origin, pointOf}
 use Rattle.geometry.specs.Clip.{placeIn}
 use Rattle.geometry.specs.declared.Point.{Point}
-use Rattle.tiles.specs.Tiles.{rowOf, tileOf, noRow, pixelOf, blankRow, noFill, fillOf, allBelow, rowBlank, tileBlank, isNone, PixelsOfWhole, Sized, NoneIsNoFill}
+use Rattle.tiles.specs.Tiles.{rowOf, tileOf, noRow, pixelOf, blankRow, fillOf, allBelow, rowBlank, tileBlank, PixelsOfWhole, Sized, NoneIsNoFill}
 use Rattle.tiles.specs.declared.Row.{Row}
 use Rattle.tiles.specs.declared.Tile.{Tile}
 use Rattle.tiles.proofs.Corners.{whole-fits}

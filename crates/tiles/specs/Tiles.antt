@@ -55,7 +55,7 @@ unfoldable pub fillOf : Extent → ℕ → List ℕ → Fill
 fillOf extent corner buffer =
     cond (wholeAt extent corner) (filledWith (tileOf buffer (extent .width) (placeIn (extent .width) (pointOf corner)))) noFill
 
--- Whether zeros are held.
+-- Whether a test passes at every number below n; and whether zeros are held.
 abbrev pub allBelow : ℕ → (ℕ → Bool) → Bool
 allBelow n test = inTurn (λ k passed. passed && test k) n true
 
@@ -101,6 +101,10 @@ pub record Sized (t : Tile) : Type 0 where
 abbrev pub NoneIsNoFill : Type 0
 NoneIsNoFill = (isNone noFill ≡ true) × ((f : Fill) → Sized (f .tile) → isNone f ≡ true → f ≡ noFill)
 
--- Sixteen bytes of the doubled tile are its row y from column x on, and round; proved in proofs/Doubling.antt.
-abbrev pub RowsOfDoubled : Type 0
-RowsOfDoubled = (t : Tile) (x y k : ℕ) → getD (doubledOf t) (32 * (y % 8) + x % 16 + k % 16) 0 ≡ pixelOf t (x + k) y
+-- Each row is there twice, so that sixteen bytes from any column of the first on are the row, and round; proved in
+-- proofs/Doubling.antt.
+abbrev pub RowsTwice : Type 0
+RowsTwice =
+    (t : Tile) (x y : ℕ)
+    → (getD (doubledOf t) (32 * (y % 8) + x % 16) 0 ≡ pixelOf t x y)
+    × (getD (doubledOf t) (32 * (y % 8) + 16 + x % 16) 0 ≡ pixelOf t x y)

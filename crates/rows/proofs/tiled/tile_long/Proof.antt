@@ -1,6 +1,5 @@
 -- The sixteen bytes three times over repeat (`repeats`), and draw as the sixteen do (`wide-tiled`).
 use mathlib.Core.Path.{refl, _∙_}
-use lib.Dec.{lit≤}
 use lib.ListN.{replicate}
 use Rattle.rows.specs.Rows.{mixed}
 use Rattle.rows.proofs.Tiles.{repeats, wide-tiled}
