@@ -18,10 +18,11 @@ pub mod record;
 pub mod sequence;
 pub mod state;
 pub mod text;
+pub mod tiles;
 
 pub use calls::{make, post, run, store, window_write, Report};
 pub use feeds::{feed, Feed};
 pub use packing::{pack, unpack, Conversion};
 pub use paper::PaperBoard;
-pub use record::{Record, NAMES};
+pub use record::{Record, NAMES, WORDS};
 pub use sequence::Sequence;

@@ -11,4 +11,5 @@ mod packing;
 mod paper;
 mod pixels;
 mod stipples;
+mod tiles;
 mod visits;
