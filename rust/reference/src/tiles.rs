@@ -32,14 +32,14 @@ impl State {
         }
     }
 
-    /// The whole tile as it stands in the source buffer.
+    /// The tile as it stands in the source buffer; a whole one has no pixel outside.
     fn tile_in(&self, buffers: &Buffers) -> Tile {
         let corner = point(self.registers[register::XY0]);
         let source = &buffers.pixels[usize::from(self.command().has(flag::SOURCE))];
         let pixel = |row: usize, column: usize| {
             let (x, y) = (column as i64, row as i64);
             let index = buffers.index(corner.moved(Point { x, y }));
-            source[index.expect("a pixel of a whole tile")]
+            index.map_or(0, |index| source[index])
         };
         std::array::from_fn(|row| std::array::from_fn(|column| pixel(row, column)))
     }
