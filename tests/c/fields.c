@@ -342,7 +342,7 @@ static void bad_tiles(void)
         malformed(&b, of_other[i].in.name);
     }
     b = other;
-    check(run(&b, &steps, AREA) == PRAMOLYT_DONE && steps == AREA - 5 && display[0] == 0, "nothing is drawn", "tile not whole");
+    check(run(&b, &steps, AREA) == PRAMOLYT_DONE && steps == AREA - 5 && display[0] == 0, "nothing drawn", "tile not whole");
 }
 
 /* no memory at all, place and steps, and a refused make */
