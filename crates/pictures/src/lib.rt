@@ -7,6 +7,5 @@ mod writing;
 
 pub use reading::ReadStatus;
 pub use reading::read_picture;
-pub use sizes::picture_size;
 pub use writing::WriteStatus;
 pub use writing::write_picture;

@@ -19,7 +19,7 @@ fn digits(n: u32) -> usize
 }
 
 // The bytes of a picture of this size.
-pub fn picture_size(width: u32, height: u32) -> usize
+pub(crate) fn picture_size(width: u32, height: u32) -> usize
     ensures { λ r. ⌜ r ≡ sizeOf width height ⌝ }
 {
     9 + digits(width) + digits(height) + area(width, height)
