@@ -1,0 +1,121 @@
+//! A board of the size that was asked for, with the pictures and the list of the command line: what `show` and `trace` begin
+//! with.
+
+use std::fs::File;
+use std::io::BufWriter;
+
+use call_log::{Log, Panel};
+use pramolyt::list::MAX_ENTRIES;
+use pramolyt::{DISPLAY, VIRTUAL};
+
+use crate::args::Given;
+use crate::failure::Failure;
+use crate::files::Input;
+use crate::paint::{Painter, Picture};
+use crate::posting::{self, Refusal};
+
+pub struct Session<'a> {
+    given: &'a Given,
+    pub panel: Panel,
+    /// The name of the list file in messages, and its bytes.
+    name: String,
+    pub list: Vec<u8>,
+}
+
+impl<'a> Session<'a> {
+    /// Makes the board and reads all files; nothing is stored yet.
+    pub fn open(given: &'a Given) -> Result<Session<'a>, Failure> {
+        let panel = board(given)?;
+        let input = Input::open(&given.file)?;
+        let name = input.name.clone();
+        let mut session = Session {
+            given,
+            panel,
+            name,
+            list: input.read_all()?,
+        };
+        session.import("from", DISPLAY)?;
+        session.import("from-virtual", VIRTUAL)?;
+        Ok(session)
+    }
+
+    /// Reads the picture of an option into a buffer.
+    fn import(&mut self, option: &str, number: usize) -> Result<(), Failure> {
+        let Some(name) = self.given.value(option) else {
+            return Ok(());
+        };
+        let input = Input::open(name)?;
+        let name = input.name.clone();
+        import(&mut self.panel, number, &name, &input.read_all()?)
+    }
+
+    /// Stores the list.
+    pub fn store(&mut self) -> Result<(), Failure> {
+        let stored = posting::store(&mut self.panel, &self.list);
+        stored.map_err(|refusal| self.refused(&refusal))
+    }
+
+    /// The failure that the refusal of the list is.
+    pub fn refused(&self, refusal: &Refusal) -> Failure {
+        Failure::Refused(format!("{}: {}", self.name, refusal.text()))
+    }
+
+    /// Steps of the posted lists.
+    pub fn run(&mut self, budget: u64) -> Result<u64, Failure> {
+        let ran = self.panel.run(budget).ok();
+        ran.map_err(|answer| Failure::Refused(format!("{}: {answer}", self.name)))
+    }
+
+    /// The buffer that was asked for.
+    pub fn buffer(&self) -> Result<usize, Failure> {
+        buffer(self.given)
+    }
+
+    /// A buffer as it is shown.
+    pub fn paint(&self, painter: &Painter, number: usize) -> (String, Option<String>) {
+        painter.paint(&Picture {
+            pixels: self.panel.buffer(number),
+            width: self.panel.board().width(),
+        })
+    }
+
+    /// Ends the log.
+    pub fn finish(self) -> Result<(), Failure> {
+        let name = self.given.value("log").unwrap_or_default();
+        let finished = self.panel.finish();
+        finished.map_err(|error| Failure::writing(&name.to_string_lossy(), &error))
+    }
+}
+
+/// The number of the buffer that was asked for, the display if none was.
+pub fn buffer(given: &Given) -> Result<usize, Failure> {
+    let choice = given.choice("buffer", &["display", "virtual"])?;
+    Ok([DISPLAY, VIRTUAL][choice.unwrap_or(0)])
+}
+
+/// The board of the size that was asked for, and its log.
+pub fn board(given: &Given) -> Result<Panel, Failure> {
+    let (width, height) = given.size()?;
+    let log = match given.value("log") {
+        None => Log::none(),
+        Some(name) => match File::create(name) {
+            Ok(file) => Log::to(BufWriter::new(file)),
+            Err(error) => return Err(Failure::writing(&name.to_string_lossy(), &error)),
+        },
+    };
+    let (made, panel) = Panel::make(log, width, height, MAX_ENTRIES);
+    made.ok().map_err(|_| given.wrong_size())?;
+    Ok(panel)
+}
+
+/// Reads a picture into a buffer.
+pub fn import(panel: &mut Panel, number: usize, name: &str, picture: &[u8]) -> Result<(), Failure> {
+    let answer = panel.import(number, picture);
+    let (width, height) = (panel.board().width(), panel.board().height());
+    answer.ok().map(|_| ()).map_err(|answer| {
+        let number = answer.number();
+        Failure::Refused(format!(
+            "{name}: answer {number}: not one binary PGM of {width} by {height} with greatest grey 255, or bytes after it"
+        ))
+    })
+}

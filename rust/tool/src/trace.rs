@@ -1,0 +1,218 @@
+//! `trace`: what each entry of a list does.
+
+use std::fmt;
+use std::io::Write;
+
+use pramolyt::list::ENTRY_BYTES;
+use pramolyt::{DISPLAY, VIRTUAL};
+
+use crate::args::Given;
+use crate::dis::{write_digits, write_entry};
+use crate::failure::Failure;
+use crate::files::stdout;
+use crate::paint::Painter;
+use crate::posting;
+use crate::progress::Progress;
+use crate::session::Session;
+use crate::show::state;
+
+pub fn run(given: &Given) -> Result<u8, Failure> {
+    let painter = Painter::new(given)?;
+    let mut session = Session::open(given)?;
+    let traced = trace(given, &painter, &mut session);
+    session.finish()?;
+    traced
+}
+
+/// Which pictures are shown: after each entry that changed a pixel, or after one entry.
+struct Pictures<'a> {
+    painter: &'a Painter,
+    each: bool,
+    at: Option<usize>,
+    /// The buffer that is shown after entry `at`.
+    number: usize,
+}
+
+fn trace(given: &Given, painter: &Painter, session: &mut Session) -> Result<u8, Failure> {
+    let pictures = Pictures {
+        painter,
+        each: given.has("picture"),
+        at: given.number("at", 0, u64::MAX)?.map(|at| at as usize),
+        number: session.buffer()?,
+    };
+    session.store()?;
+    let judged = posting::judge(&session.panel, &session.list);
+    judged.map_err(|refusal| session.refused(&refusal))?;
+    let mut output = stdout();
+    let mut write = |text: &str| {
+        let written = output.write_all(text.as_bytes());
+        written.map_err(|error| Failure::writing("standard output", &error))
+    };
+    let mut progress = Progress::beside_output("trace");
+    let mut before = Snapshot::of(session);
+    let mut total = 0;
+    for place in 0..session.list.len() / ENTRY_BYTES {
+        let steps = step(session, place)?;
+        total += steps;
+        let changes = if steps > 1 {
+            before.changes(session)
+        } else {
+            Vec::new()
+        };
+        write(&line(session, place, steps, &changes))?;
+        pictures.write(session, place, &changes, &mut write)?;
+        progress.tick(|| format!("entry {place}, {total} steps"));
+    }
+    write(&format!("answer 0 steps {total} {}\n", state(session)))?;
+    let flushed = output.flush();
+    flushed.map_err(|error| Failure::writing("standard output", &error))?;
+    Ok(0)
+}
+
+/// Runs one entry, posted as a list of its own: registers, pattern and last point carry over. Its steps.
+fn step(session: &mut Session, place: usize) -> Result<u64, Failure> {
+    let posted = session.panel.post(place, 1).ok();
+    posted.map_err(|answer| Failure::Refused(format!("entry {place}: {answer}")))?;
+    session.run(u64::MAX)
+}
+
+/// The line of an entry.
+fn line(session: &Session, place: usize, steps: u64, changes: &[Change]) -> String {
+    let bytes = &session.list[ENTRY_BYTES * place..][..ENTRY_BYTES];
+    let entry = bytes.try_into().expect("an entry");
+    let mut text = format!("{place:>4}  ");
+    write_digits(entry, &mut text);
+    text.push_str("  ");
+    write_entry(entry, &mut text);
+    let unit = if steps == 1 { "step" } else { "steps" };
+    let mut line = format!("{text:<50}  {steps} {unit}");
+    for change in changes {
+        line += &format!("  {change}");
+    }
+    if steps > 1 && changes.is_empty() {
+        line += "  nothing changed";
+    }
+    line + "\n"
+}
+
+impl Pictures<'_> {
+    /// Writes the pictures that are to be shown after an entry.
+    fn write(
+        &self,
+        session: &Session,
+        place: usize,
+        changes: &[Change],
+        write: &mut impl FnMut(&str) -> Result<(), Failure>,
+    ) -> Result<(), Failure> {
+        let mut numbers: Vec<usize> = match self.each {
+            true => changes.iter().map(|change| change.number).collect(),
+            false => Vec::new(),
+        };
+        if self.at == Some(place) && numbers.is_empty() {
+            numbers.push(self.number);
+        }
+        for number in numbers {
+            write(&session.paint(self.painter, number).0)?;
+        }
+        Ok(())
+    }
+}
+
+/// Both buffers as they were.
+struct Snapshot {
+    buffers: [Vec<u8>; 2],
+}
+
+/// The pixels of a buffer that an entry changed.
+#[derive(Debug, PartialEq, Eq)]
+struct Change {
+    number: usize,
+    /// The first and the last column and row.
+    left: usize,
+    top: usize,
+    right: usize,
+    bottom: usize,
+    pixels: usize,
+}
+
+impl fmt::Display for Change {
+    fn fmt(&self, f: &mut fmt::Formatter<'_>) -> fmt::Result {
+        let name = ["display", "virtual"][self.number];
+        let Change { left, top, .. } = self;
+        let Change { right, bottom, .. } = self;
+        let pixels = self.pixels;
+        let unit = if pixels == 1 { "pixel" } else { "pixels" };
+        write!(
+            f,
+            "{name} ({left}, {top}) to ({right}, {bottom}), {pixels} {unit}"
+        )
+    }
+}
+
+impl Snapshot {
+    fn of(session: &Session) -> Snapshot {
+        let buffers = [DISPLAY, VIRTUAL].map(|number| session.panel.buffer(number).to_vec());
+        Snapshot { buffers }
+    }
+
+    /// What has changed since, which is taken over.
+    fn changes(&mut self, session: &Session) -> Vec<Change> {
+        let width = session.panel.board().width();
+        let mut changes = Vec::new();
+        for number in [DISPLAY, VIRTUAL] {
+            let (before, after) = (&mut self.buffers[number], session.panel.buffer(number));
+            changes.extend(change(number, width, before, after));
+        }
+        changes
+    }
+}
+
+/// What has changed in a buffer, which is taken over into `before`.
+fn change(number: usize, width: usize, before: &mut [u8], after: &[u8]) -> Option<Change> {
+    let mut all: Option<Change> = None;
+    let rows = before.chunks_mut(width).zip(after.chunks(width));
+    for (y, (old, new)) in rows.enumerate() {
+        if old == new {
+            continue;
+        }
+        let differ = |&x: &usize| old[x] != new[x];
+        let pixels = (0..width).filter(differ).count();
+        let left = (0..width).find(differ).unwrap_or(0);
+        let right = (0..width).rev().find(differ).unwrap_or(0);
+        old.copy_from_slice(new);
+        let change = all.get_or_insert(Change {
+            number,
+            left,
+            top: y,
+            right,
+            bottom: y,
+            pixels: 0,
+        });
+        change.left = change.left.min(left);
+        change.right = change.right.max(right);
+        change.bottom = y;
+        change.pixels += pixels;
+    }
+    all
+}
+
+#[cfg(test)]
+mod tests {
+    use super::change;
+
+    #[test]
+    fn the_rectangle_of_what_changed() {
+        let mut before = [0; 20];
+        let mut after = before;
+        assert_eq!(change(0, 5, &mut before, &after), None);
+        for at in [7, 8, 11] {
+            after[at] = 1;
+        }
+        let found = change(1, 5, &mut before, &after).expect("a change");
+        assert_eq!(found.to_string(), "virtual (1, 1) to (3, 2), 3 pixels");
+        assert_eq!(before, after);
+        after[19] = 2;
+        let found = change(0, 5, &mut before, &after).expect("a change");
+        assert_eq!(found.to_string(), "display (4, 3) to (4, 3), 1 pixel");
+    }
+}
