@@ -1,6 +1,7 @@
 //! A board that writes the log of its calls.
 
 use std::io::{self, Write};
+use std::mem;
 
 use pramolyt::{Answer, Board, Feed};
 
@@ -57,23 +58,22 @@ pub struct LoggedBoard {
 impl LoggedBoard {
     /// [`Board::make`], and the log.
     pub fn make(log: Log, width: usize, height: usize, entries: usize) -> (Answer, LoggedBoard) {
-        let (answer, board) = Board::make(1, 1, 1);
-        debug_assert_eq!(answer.number(), 0);
-        let mut board = LoggedBoard { board, log };
-        let answer = board.make_anew(width, height, entries);
-        (answer, board)
-    }
-
-    /// [`Board::make`] in place of this board; the log goes on.
-    pub fn make_anew(&mut self, width: usize, height: usize, entries: usize) -> Answer {
         let (answer, board) = Board::make(width, height, entries);
-        self.board = board;
+        let mut board = LoggedBoard { board, log };
         let call = Call::Make {
             width,
             height,
             entries,
         };
-        self.answered(&call, answer)
+        (board.answered(&call, answer), board)
+    }
+
+    /// [`Board::make`] in place of this board; the log goes on.
+    pub fn make_anew(&mut self, width: usize, height: usize, entries: usize) -> Answer {
+        let log = mem::take(&mut self.log);
+        let (answer, board) = LoggedBoard::make(log, width, height, entries);
+        *self = board;
+        answer
     }
 
     /// The board, to be asked and not to be changed.

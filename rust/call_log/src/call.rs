@@ -152,7 +152,7 @@ impl Outcome {
     }
 
     /// What a run with this answer handed back.
-    pub fn of_run(answer: Answer) -> Outcome {
+    pub(crate) fn of_run(answer: Answer) -> Outcome {
         match answer {
             Answer::Done { steps } | Answer::IllegalFetch { steps } => {
                 Outcome::with(answer, Detail::Steps(steps))
@@ -162,7 +162,7 @@ impl Outcome {
     }
 
     /// What a feed with this answer handed back; `feed` is the record after it.
-    pub fn of_feed(answer: Answer, feed: &Feed) -> Outcome {
+    pub(crate) fn of_feed(answer: Answer, feed: &Feed) -> Outcome {
         match answer {
             Answer::Done { .. } => Outcome::with(answer, Detail::Feed(feed.clone())),
             refused => Outcome::of(refused),
@@ -170,7 +170,7 @@ impl Outcome {
     }
 
     /// What an export handed back: the picture, or why there is none.
-    pub fn of_export(exported: Result<&[u8], Answer>) -> Outcome {
+    pub(crate) fn of_export(exported: Result<&[u8], Answer>) -> Outcome {
         match exported {
             Ok(picture) => Outcome {
                 number: 0,

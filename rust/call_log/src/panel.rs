@@ -11,8 +11,8 @@ use crate::call::{Call, Outcome};
 pub struct Panel {
     board: LoggedBoard,
     list: Vec<u8>,
-    display: Vec<u8>,
-    virt: Vec<u8>,
+    /// Display and virtual.
+    buffers: [Vec<u8>; 2],
 }
 
 impl Panel {
@@ -22,8 +22,7 @@ impl Panel {
         let mut panel = Panel {
             board,
             list: Vec::new(),
-            display: Vec::new(),
-            virt: Vec::new(),
+            buffers: [const { Vec::new() }; 2],
         };
         panel.fit();
         (answer, panel)
@@ -34,11 +33,8 @@ impl Panel {
         let board = self.board.board();
         let pixels = board.width() * board.height();
         let entries = 5 * board.entries();
-        for (memory, size) in [
-            (&mut self.list, entries),
-            (&mut self.display, pixels),
-            (&mut self.virt, pixels),
-        ] {
+        let [display, virt] = &mut self.buffers;
+        for (memory, size) in [(&mut self.list, entries), (display, pixels), (virt, pixels)] {
             if memory.len() != size {
                 *memory = vec![0; size];
             }
@@ -57,10 +53,7 @@ impl Panel {
 
     /// The buffer of this number; the display where there is none.
     pub fn buffer(&self, number: usize) -> &[u8] {
-        match number {
-            VIRTUAL => &self.virt,
-            _ => &self.display,
-        }
+        &self.buffers[place_of(number)]
     }
 
     /// Makes the call on this board, and gives what it handed back. Overwrite, which is no call of the library, hands back
@@ -116,25 +109,19 @@ impl Panel {
 
     /// Runs the posted lists.
     pub fn run(&mut self, budget: u64) -> Answer {
-        self.board
-            .run(budget, &self.list, &mut self.display, &mut self.virt)
+        let [display, virt] = &mut self.buffers;
+        self.board.run(budget, &self.list, display, virt)
     }
 
     /// Writes bytes into a buffer.
     pub fn write(&mut self, number: usize, offset: usize, bytes: &[u8]) -> Answer {
-        let buffer = match number {
-            VIRTUAL => &mut self.virt,
-            _ => &mut self.display,
-        };
+        let buffer = &mut self.buffers[place_of(number)];
         self.board.window_write(number, offset, bytes, buffer)
     }
 
     /// Reads a picture into a buffer.
     pub fn import(&mut self, number: usize, picture: &[u8]) -> Answer {
-        let buffer = match number {
-            VIRTUAL => &mut self.virt,
-            _ => &mut self.display,
-        };
+        let buffer = &mut self.buffers[place_of(number)];
         self.board.import(number, picture, buffer)
     }
 
@@ -151,10 +138,7 @@ impl Panel {
     fn export_into(&mut self, number: usize, room: usize) -> Result<Vec<u8>, Answer> {
         let board = self.board.board();
         let mut output = vec![0; room.min(picture_max(board.width(), board.height()))];
-        let buffer = match number {
-            VIRTUAL => &self.virt,
-            _ => &self.display,
-        };
+        let buffer = &self.buffers[place_of(number)];
         let written = self.board.export(number, buffer, &mut output)?;
         output.truncate(written);
         Ok(output)
@@ -168,4 +152,9 @@ impl Panel {
     pub fn finish(self) -> io::Result<()> {
         self.board.finish()
     }
+}
+
+/// The place of a buffer among both: a call that names a third is lent the display, and refused.
+fn place_of(number: usize) -> usize {
+    usize::from(number == VIRTUAL)
 }

@@ -11,13 +11,10 @@ use crate::args::Given;
 use crate::dis::{write_digits, write_entry};
 use crate::failure::Failure;
 use crate::fields;
-use crate::files::{Input, write_file};
+use crate::files::{Input, MOST_BYTES, write_file};
 use crate::names::REGISTERS;
 use crate::progress::Progress;
 use crate::tokens::Tokens;
-
-/// The most bytes of the entries that a text may have, far above what a list memory holds.
-const MOST_BYTES: usize = 1 << 26;
 
 /// What a text says.
 #[derive(Debug, Default)]

@@ -1,27 +1,38 @@
 //! `dis`: what a list file says, an entry a line.
 
 use std::fmt::Write as _;
-use std::io::{Read, Write};
 
 use pramolyt::list::{ENTRY_BYTES, MAX_ENTRIES};
 
 use crate::args::Given;
 use crate::failure::Failure;
 use crate::fields;
-use crate::files::{Input, stdout};
+use crate::files::{Input, Output};
 use crate::judge::illegal_places;
 use crate::names;
 use crate::progress::Progress;
 use crate::reasons::reason;
 
-/// Writes the register and the fields of an entry. Nothing where they cannot say it all: no such register, or spare bits set.
-pub fn write_entry(entry: [u8; ENTRY_BYTES], out: &mut String) {
+/// Writes the register and the fields of an entry; nothing where there is no such register.
+fn write_fields(entry: [u8; ENTRY_BYTES], out: &mut String) {
     let [first, a, b, c, d] = entry;
-    if let (Some(&(_, name, form)), 0) = (names::register(first / 8), first % 8) {
+    if let Some(&(_, name, form)) = names::register(first / 8) {
         out.push_str(name);
         out.push(' ');
         let word = u32::from_be_bytes([a, b, c, d]);
         fields::write(form, word, out).expect("a String takes all");
+    }
+}
+
+/// Whether register and fields leave something out: the bits between the register's number and the word.
+fn has_spare_bits(entry: [u8; ENTRY_BYTES]) -> bool {
+    entry[0] & 7 != 0
+}
+
+/// Writes the register and the fields of an entry where they say it all, else nothing.
+pub fn write_entry(entry: [u8; ENTRY_BYTES], out: &mut String) {
+    if !has_spare_bits(entry) {
+        write_fields(entry, out);
     }
 }
 
@@ -54,8 +65,13 @@ impl Style {
         if illegal {
             let text = out.trim_end().len();
             out.truncate(text);
+            out.push_str("  # ");
+            if has_spare_bits(entry) && names::register(entry[0] / 8).is_some() {
+                write_fields(entry, out);
+                out.push_str(", ");
+            }
             let why = reason(entry);
-            write!(out, "  # illegal: {why}").expect("a String takes all");
+            write!(out, "illegal: {why}").expect("a String takes all");
         }
         out.push('\n');
     }
@@ -71,26 +87,21 @@ impl Style {
     }
 }
 
-/// Writes all entries of the input, and gives their number and how many bytes are left over.
+/// Hands the lines of all entries of the input to `write`, and gives their number and how many bytes are left over.
 fn disassemble(
-    mut input: impl Read,
-    output: &mut impl Write,
+    mut input: Input,
     style: Style,
-    progress: &mut Progress,
-) -> Result<(u64, usize), ReadOrWrite> {
-    let mut batch = Vec::with_capacity(ENTRY_BYTES * MAX_ENTRIES);
+    mut write: impl FnMut(&[u8]) -> Result<(), Failure>,
+) -> Result<(u64, usize), Failure> {
+    let mut progress = Progress::beside_output("dis");
     let mut text = String::new();
     let mut place = 0;
     loop {
-        batch.clear();
-        let mut part = input.by_ref().take((ENTRY_BYTES * MAX_ENTRIES) as u64);
-        part.read_to_end(&mut batch).map_err(ReadOrWrite::Read)?;
+        let batch = input.read_up_to(ENTRY_BYTES * MAX_ENTRIES)?;
         let whole = batch.len() / ENTRY_BYTES;
         text.clear();
         style.write_all(place, &batch[..ENTRY_BYTES * whole], &mut text);
-        output
-            .write_all(text.as_bytes())
-            .map_err(ReadOrWrite::Write)?;
+        write(text.as_bytes())?;
         place += whole as u64;
         progress.tick(|| format!("{place} entries"));
         if whole < MAX_ENTRIES {
@@ -99,34 +110,19 @@ fn disassemble(
     }
 }
 
-/// An error, and which side it is of.
-#[derive(Debug)]
-enum ReadOrWrite {
-    Read(std::io::Error),
-    Write(std::io::Error),
-}
-
 pub fn run(given: &Given) -> Result<u8, Failure> {
     let style = Style {
         bare: given.has("bare"),
     };
-    let mut input = Input::open(&given.file)?;
-    let mut output = stdout();
-    let mut progress = Progress::beside_output("dis");
-    let done = disassemble(&mut input.read, &mut output, style, &mut progress);
-    drop(progress);
-    let (entries, left) = done.map_err(|error| match error {
-        ReadOrWrite::Read(error) => input.trouble(&error),
-        ReadOrWrite::Write(error) => Failure::writing("standard output", &error),
-    })?;
-    output
-        .flush()
-        .map_err(|error| Failure::writing("standard output", &error))?;
+    let input = Input::open(&given.file)?;
+    let name = input.name.clone();
+    let mut output = Output::new();
+    let (entries, left) = disassemble(input, style, |text| output.write(text))?;
+    output.flush()?;
     match left {
         0 => Ok(0),
         left => Err(Failure::Refused(format!(
-            "{}: entry {entries}: {left} of 5 bytes, then the end of the file",
-            input.name
+            "{name}: entry {entries} has {left} of 5 bytes, then the file ends"
         ))),
     }
 }
@@ -135,16 +131,23 @@ pub fn run(given: &Given) -> Result<u8, Failure> {
 mod tests {
     use super::{Style, disassemble};
     use crate::asm::assemble;
-    use crate::progress::Progress;
+    use crate::files::Input;
     use compare::lists::{Size, doubtful_entry, legal_entry};
     use compare::random::Random;
+    use std::io::Cursor;
 
     /// The text of a file.
     fn text_of(file: &[u8], bare: bool) -> String {
+        let input = Input {
+            name: "a test".into(),
+            read: Box::new(Cursor::new(file.to_vec())),
+        };
         let mut text = Vec::new();
-        let mut input = file;
-        let mut progress = Progress::new("dis");
-        disassemble(&mut input, &mut text, Style { bare }, &mut progress).expect("memory");
+        let write = |lines: &[u8]| {
+            text.extend(lines);
+            Ok(())
+        };
+        disassemble(input, Style { bare }, write).expect("memory");
         String::from_utf8(text).expect("text")
     }
 

@@ -1,6 +1,6 @@
 //! Why the program ends with a status other than 0.
 
-use std::io;
+use std::io::{self, Write};
 
 use call_log::Trouble;
 
@@ -64,4 +64,9 @@ fn words(error: &io::Error) -> String {
         Some(end) => text[..end].into(),
         None => text,
     }
+}
+
+/// Says a line on standard error. Where that is closed there is nobody to tell.
+pub fn complain(line: &str) {
+    let _ = writeln!(io::stderr(), "pramolyt: {line}");
 }

@@ -128,7 +128,7 @@ fn read_pattern(tokens: &mut Tokens) -> Result<u32, Fault> {
     let scale = field("scale", 1, MAX_PATTERN_SCALE, true)?;
     let place = field("place", 0, MAX_PATTERN_LENGTH - 1, false)?;
     let repeat = field("repeat", 0, MAX_PATTERN_SCALE - 1, false)?;
-    let word = length % 32 | (scale - 1) << 5 | place << 8 | repeat << 13;
+    let word = (length % 32) | (scale - 1) << 5 | place << 8 | repeat << 13;
     Ok(word | tokens.hex().unwrap_or(0))
 }
 

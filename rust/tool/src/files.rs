@@ -7,7 +7,7 @@ use std::io::{self, BufReader, BufWriter, IsTerminal, Read, StdoutLock, Write};
 use crate::failure::Failure;
 
 /// The most bytes of a file that is read whole. A picture of the largest board has 4 MiB.
-const MOST_BYTES: u64 = 1 << 26;
+pub const MOST_BYTES: usize = 1 << 26;
 
 /// A file that is read.
 pub struct Input {
@@ -34,42 +34,67 @@ impl Input {
         }
     }
 
-    /// The failure of a read from it.
-    pub fn trouble(&self, error: &io::Error) -> Failure {
-        Failure::reading(&self.name, error)
-    }
-
     pub fn buffered(self) -> BufReader<Box<dyn Read>> {
         BufReader::with_capacity(1 << 16, self.read)
     }
 
+    /// The next bytes, so many where there are so many.
+    pub fn read_up_to(&mut self, most: usize) -> Result<Vec<u8>, Failure> {
+        let mut bytes = Vec::new();
+        let mut part = self.read.by_ref().take(most as u64);
+        match part.read_to_end(&mut bytes) {
+            Ok(_) => Ok(bytes),
+            Err(error) => Err(Failure::reading(&self.name, &error)),
+        }
+    }
+
     /// All its bytes.
     pub fn read_all(mut self) -> Result<Vec<u8>, Failure> {
-        let mut bytes = Vec::new();
-        let mut part = self.read.by_ref().take(MOST_BYTES + 1);
-        match part.read_to_end(&mut bytes) {
-            Err(error) => Err(self.trouble(&error)),
-            Ok(_) if bytes.len() as u64 > MOST_BYTES => Err(Failure::Refused(format!(
-                "{}: the file has more than {MOST_BYTES} bytes",
-                self.name
-            ))),
-            Ok(_) => Ok(bytes),
+        let bytes = self.read_up_to(MOST_BYTES + 1)?;
+        if bytes.len() > MOST_BYTES {
+            let name = self.name;
+            let message = format!("{name}: the file has more than {MOST_BYTES} bytes");
+            return Err(Failure::Trouble(message));
         }
+        Ok(bytes)
     }
 }
 
 /// Standard output; it is to be flushed.
-pub fn stdout() -> BufWriter<StdoutLock<'static>> {
-    BufWriter::with_capacity(1 << 16, io::stdout().lock())
+pub struct Output {
+    stdout: BufWriter<StdoutLock<'static>>,
+}
+
+impl Output {
+    pub fn new() -> Output {
+        Output {
+            stdout: BufWriter::with_capacity(1 << 16, io::stdout().lock()),
+        }
+    }
+
+    pub fn write(&mut self, bytes: &[u8]) -> Result<(), Failure> {
+        written(self.stdout.write_all(bytes))
+    }
+
+    pub fn flush(&mut self) -> Result<(), Failure> {
+        written(self.stdout.flush())
+    }
+}
+
+/// The failure of a write to standard output.
+fn written(done: io::Result<()>) -> Result<(), Failure> {
+    done.map_err(|error| Failure::writing("standard output", &error))
 }
 
 /// Writes a text to standard output.
 pub fn print(text: &str) -> Result<(), Failure> {
-    let mut output = io::stdout().lock();
-    output
-        .write_all(text.as_bytes())
-        .and_then(|()| output.flush())
-        .map_err(|error| Failure::writing("standard output", &error))
+    print_bytes(text.as_bytes())
+}
+
+fn print_bytes(bytes: &[u8]) -> Result<(), Failure> {
+    let mut output = Output::new();
+    output.write(bytes)?;
+    output.flush()
 }
 
 /// Writes a file. Binary bytes are not put on a terminal.
@@ -78,14 +103,10 @@ pub fn write_file(name: &OsStr, bytes: &[u8], binary: bool) -> Result<(), Failur
     if name != "-" {
         return std::fs::write(name, bytes).map_err(|error| Failure::writing(&shown, &error));
     }
-    let mut output = io::stdout().lock();
-    if binary && output.is_terminal() {
+    if binary && io::stdout().is_terminal() {
         return Err(Failure::Misuse(
             "the output is not text and is not put on a terminal; name a file by -o".into(),
         ));
     }
-    output
-        .write_all(bytes)
-        .and_then(|()| output.flush())
-        .map_err(|error| Failure::writing("standard output", &error))
+    print_bytes(bytes)
 }

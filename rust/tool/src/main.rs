@@ -30,7 +30,7 @@ use std::process::ExitCode;
 
 use args::{Asked, Command, Opt};
 use commands::{COMMANDS, COMMON};
-use failure::Failure;
+use failure::{Failure, complain};
 
 const VERSION: &str = concat!("pramolyt ", env!("CARGO_PKG_VERSION"), "\n");
 
@@ -57,12 +57,14 @@ fn say(command: &str, failure: &Failure) {
     };
     match failure {
         Failure::Misuse(_) if command.is_empty() => {
-            eprintln!("pramolyt: {message}; see pramolyt --help");
+            complain(&format!("{message}; see pramolyt --help"));
         }
         Failure::Misuse(_) => {
-            eprintln!("pramolyt: {command}: {message}; see pramolyt {command} --help");
+            complain(&format!(
+                "{command}: {message}; see pramolyt {command} --help"
+            ));
         }
-        _ => eprintln!("pramolyt: {message}"),
+        _ => complain(message),
     }
 }
 
@@ -112,8 +114,13 @@ fn help(command: &Command) -> String {
     let mut text = format!(
         "Usage: pramolyt {name} [OPTION].. {file}\n\n{name}: {summary}.\n{about}\n\nOptions:\n"
     );
-    for option in command.options.iter().chain(&COMMON) {
-        text += &format!("  {:<24}{}\n", spelled(option), option.help);
+    let options = command.options.iter().chain(&COMMON);
+    let rows: Vec<_> = options
+        .map(|option| (spelled(option), option.help))
+        .collect();
+    let width = rows.iter().map(|row| row.0.len()).max().unwrap_or(0);
+    for (option, help) in rows {
+        text += &format!("  {option:<width$}  {help}\n");
     }
     text
 }

@@ -3,7 +3,7 @@
 use call_log::{Call, Detail, Line, Log, Outcome, Panel, Reader};
 
 use crate::args::Given;
-use crate::failure::Failure;
+use crate::failure::{Failure, complain};
 use crate::files::{Input, print, write_file};
 use crate::posting::illegal;
 use crate::progress::Progress;
@@ -69,7 +69,7 @@ impl Replay {
         let message = self.difference(line, logged, &outcome);
         self.differences += 1;
         if self.keep_going {
-            eprintln!("pramolyt: {message}");
+            complain(&message);
             return Ok(());
         }
         Err(Failure::Refused(message))

@@ -6,7 +6,7 @@ use std::io::BufWriter;
 
 use call_log::{Log, Panel};
 use pramolyt::list::MAX_ENTRIES;
-use pramolyt::{DISPLAY, VIRTUAL};
+use pramolyt::{Answer, DISPLAY, VIRTUAL};
 
 use crate::args::Given;
 use crate::failure::Failure;
@@ -55,20 +55,52 @@ impl<'a> Session<'a> {
         stored.map_err(|refusal| self.refused(&refusal))
     }
 
-    /// The failure that the refusal of the list is.
-    pub fn refused(&self, refusal: &Refusal) -> Failure {
+    /// Posts the list.
+    pub fn post(&mut self) -> Result<(), Failure> {
+        let posted = posting::post(&mut self.panel, &self.list);
+        posted.map_err(|refusal| self.refused(&refusal))
+    }
+
+    /// Asks whether the list would be accepted, and posts nothing.
+    pub fn judge(&self) -> Result<(), Failure> {
+        let judged = posting::judge(&self.panel, &self.list);
+        judged.map_err(|refusal| self.refused(&refusal))
+    }
+
+    fn refused(&self, refusal: &Refusal) -> Failure {
         Failure::Refused(format!("{}: {}", self.name, refusal.text()))
     }
 
     /// Steps of the posted lists.
     pub fn run(&mut self, budget: u64) -> Result<u64, Failure> {
         let ran = self.panel.run(budget).ok();
-        ran.map_err(|answer| Failure::Refused(format!("{}: {answer}", self.name)))
+        ran.map_err(|answer| self.failed(answer))
     }
 
-    /// The buffer that was asked for.
-    pub fn buffer(&self) -> Result<usize, Failure> {
-        buffer(self.given)
+    /// A buffer as a PGM.
+    pub fn export(&mut self, number: usize) -> Result<Vec<u8>, Failure> {
+        let exported = self.panel.export(number);
+        exported.map_err(|answer| self.failed(answer))
+    }
+
+    /// Ends the log with the picture that the calls before it left.
+    pub fn log_picture(&mut self, number: usize) -> Result<(), Failure> {
+        if self.given.has("log") {
+            self.export(number)?;
+        }
+        Ok(())
+    }
+
+    /// A call that is never refused was.
+    pub fn failed(&self, answer: Answer) -> Failure {
+        Failure::Refused(format!("{}: {answer}", self.name))
+    }
+
+    /// The last line, as the program `draw` has it.
+    pub fn summary(&self, steps: u64) -> String {
+        let idle = self.panel.board().is_idle();
+        let state = if idle { "idle" } else { "paused" };
+        format!("answer 0 steps {steps} {state}\n")
     }
 
     /// A buffer as it is shown.

@@ -1,59 +1,57 @@
 //! `show`: runs a list and shows the board.
 
 use crate::args::Given;
-use crate::failure::Failure;
+use crate::failure::{Failure, complain};
 use crate::files::{print, write_file};
 use crate::paint::Painter;
-use crate::posting;
 use crate::progress::Progress;
-use crate::session::Session;
+use crate::session::{Session, buffer};
 
 /// The steps of a run where no budget is given: so many take part of a second, after which progress is told.
 const BUDGET: u64 = 50_000_000;
 
-pub fn run(given: &Given) -> Result<u8, Failure> {
-    let painter = Painter::new(given)?;
-    let mut session = Session::open(given)?;
-    let shown = show(given, &painter, &mut session);
-    session.finish()?;
-    shown
+/// What was asked for, besides the board.
+struct Wanted {
+    budget: u64,
+    runs: u64,
+    /// The buffer that is shown.
+    number: usize,
+    painter: Painter,
 }
 
-fn show(given: &Given, painter: &Painter, session: &mut Session) -> Result<u8, Failure> {
-    let budget = given.number("budget", 1, u64::MAX)?.unwrap_or(BUDGET);
-    let runs = given.number("runs", 1, u64::MAX)?.unwrap_or(u64::MAX);
-    let number = session.buffer()?;
+pub fn run(given: &Given) -> Result<u8, Failure> {
+    let wanted = Wanted {
+        budget: given.number("budget", 1, u64::MAX)?.unwrap_or(BUDGET),
+        runs: given.number("runs", 1, u64::MAX)?.unwrap_or(u64::MAX),
+        number: buffer(given)?,
+        painter: Painter::new(given)?,
+    };
+    let mut session = Session::open(given)?;
+    let shown = show(given, &wanted, &mut session);
+    session.finish()?;
+    shown.map(|()| 0)
+}
+
+fn show(given: &Given, wanted: &Wanted, session: &mut Session) -> Result<(), Failure> {
     session.store()?;
-    let posted = posting::post(&mut session.panel, &session.list);
-    posted.map_err(|refusal| session.refused(&refusal))?;
-    let steps = run_all(session, budget, runs)?;
-    let state = state(session);
-    let summary = format!("answer 0 steps {steps} {state}\n");
-    if given.has("log") || given.has("output") {
-        let exported = session.panel.export(number);
-        let picture = exported.map_err(|answer| Failure::Refused(answer.to_string()))?;
-        if given.has("output") {
-            write_file(given.output(), &picture, true)?;
-            let text = if given.output() == "-" { "" } else { &summary };
-            print(text)?;
-            return Ok(0);
-        }
+    session.post()?;
+    let steps = run_all(session, wanted.budget, wanted.runs)?;
+    let summary = session.summary(steps);
+    if given.has("output") {
+        let picture = session.export(wanted.number)?;
+        write_file(given.output(), &picture, true)?;
+        return match given.output() == "-" {
+            true => Ok(()),
+            false => print(&summary),
+        };
     }
-    let (text, note) = session.paint(painter, number);
+    session.log_picture(wanted.number)?;
+    let (text, note) = session.paint(&wanted.painter, wanted.number);
     print(&(summary + &text))?;
     if let Some(note) = note {
-        eprintln!("pramolyt: {note}");
+        complain(&note);
     }
-    Ok(0)
-}
-
-/// The word for what is left to be drawn.
-pub fn state(session: &Session) -> &'static str {
-    if session.panel.board().is_idle() {
-        "idle"
-    } else {
-        "paused"
-    }
+    Ok(())
 }
 
 /// Runs of the budget's steps, so many at most, until nothing is left. The steps of all.

@@ -1,7 +1,6 @@
 //! `trace`: what each entry of a list does.
 
 use std::fmt;
-use std::io::Write;
 
 use pramolyt::list::ENTRY_BYTES;
 use pramolyt::{DISPLAY, VIRTUAL};
@@ -9,70 +8,71 @@ use pramolyt::{DISPLAY, VIRTUAL};
 use crate::args::Given;
 use crate::dis::{write_digits, write_entry};
 use crate::failure::Failure;
-use crate::files::stdout;
+use crate::files::Output;
 use crate::paint::Painter;
-use crate::posting;
 use crate::progress::Progress;
-use crate::session::Session;
-use crate::show::state;
-
-pub fn run(given: &Given) -> Result<u8, Failure> {
-    let painter = Painter::new(given)?;
-    let mut session = Session::open(given)?;
-    let traced = trace(given, &painter, &mut session);
-    session.finish()?;
-    traced
-}
+use crate::session::{Session, buffer};
 
 /// Which pictures are shown: after each entry that changed a pixel, or after one entry.
-struct Pictures<'a> {
-    painter: &'a Painter,
+struct Pictures {
+    painter: Painter,
     each: bool,
-    at: Option<usize>,
+    at: Option<u64>,
     /// The buffer that is shown after entry `at`.
     number: usize,
 }
 
-fn trace(given: &Given, painter: &Painter, session: &mut Session) -> Result<u8, Failure> {
+pub fn run(given: &Given) -> Result<u8, Failure> {
     let pictures = Pictures {
-        painter,
+        painter: Painter::new(given)?,
         each: given.has("picture"),
-        at: given.number("at", 0, u64::MAX)?.map(|at| at as usize),
-        number: session.buffer()?,
+        at: given.number("at", 0, u64::MAX)?,
+        number: buffer(given)?,
     };
+    let mut session = Session::open(given)?;
+    let traced = trace(&pictures, &mut session);
+    session.finish()?;
+    traced.map(|()| 0)
+}
+
+fn trace(pictures: &Pictures, session: &mut Session) -> Result<(), Failure> {
     session.store()?;
-    let judged = posting::judge(&session.panel, &session.list);
-    judged.map_err(|refusal| session.refused(&refusal))?;
-    let mut output = stdout();
-    let mut write = |text: &str| {
-        let written = output.write_all(text.as_bytes());
-        written.map_err(|error| Failure::writing("standard output", &error))
-    };
+    session.judge()?;
+    let mut output = Output::new();
     let mut progress = Progress::beside_output("trace");
     let mut before = Snapshot::of(session);
     let mut total = 0;
     for place in 0..session.list.len() / ENTRY_BYTES {
         let steps = step(session, place)?;
         total += steps;
-        let changes = if steps > 1 {
-            before.changes(session)
-        } else {
-            Vec::new()
-        };
-        write(&line(session, place, steps, &changes))?;
-        pictures.write(session, place, &changes, &mut write)?;
+        let changes = before.changes(session, steps);
+        output.write(line(session, place, steps, &changes).as_bytes())?;
+        for number in pictures.after(place, &changes) {
+            output.write(session.paint(&pictures.painter, number).0.as_bytes())?;
+        }
         progress.tick(|| format!("entry {place}, {total} steps"));
     }
-    write(&format!("answer 0 steps {total} {}\n", state(session)))?;
-    let flushed = output.flush();
-    flushed.map_err(|error| Failure::writing("standard output", &error))?;
-    Ok(0)
+    drop(progress);
+    output.write(session.summary(total).as_bytes())?;
+    output.flush()?;
+    session.log_picture(pictures.number)
+}
+
+impl Pictures {
+    /// The buffers that are shown after an entry with these changes.
+    fn after(&self, place: usize, changes: &[Change]) -> Vec<usize> {
+        if self.each && !changes.is_empty() {
+            return changes.iter().map(|change| change.number).collect();
+        }
+        let here = self.at == Some(place as u64);
+        here.then_some(self.number).into_iter().collect()
+    }
 }
 
 /// Runs one entry, posted as a list of its own: registers, pattern and last point carry over. Its steps.
 fn step(session: &mut Session, place: usize) -> Result<u64, Failure> {
     let posted = session.panel.post(place, 1).ok();
-    posted.map_err(|answer| Failure::Refused(format!("entry {place}: {answer}")))?;
+    posted.map_err(|answer| session.failed(answer))?;
     session.run(u64::MAX)
 }
 
@@ -93,29 +93,6 @@ fn line(session: &Session, place: usize, steps: u64, changes: &[Change]) -> Stri
         line += "  nothing changed";
     }
     line + "\n"
-}
-
-impl Pictures<'_> {
-    /// Writes the pictures that are to be shown after an entry.
-    fn write(
-        &self,
-        session: &Session,
-        place: usize,
-        changes: &[Change],
-        write: &mut impl FnMut(&str) -> Result<(), Failure>,
-    ) -> Result<(), Failure> {
-        let mut numbers: Vec<usize> = match self.each {
-            true => changes.iter().map(|change| change.number).collect(),
-            false => Vec::new(),
-        };
-        if self.at == Some(place) && numbers.is_empty() {
-            numbers.push(self.number);
-        }
-        for number in numbers {
-            write(&session.paint(self.painter, number).0)?;
-        }
-        Ok(())
-    }
 }
 
 /// Both buffers as they were.
@@ -155,8 +132,11 @@ impl Snapshot {
         Snapshot { buffers }
     }
 
-    /// What has changed since, which is taken over.
-    fn changes(&mut self, session: &Session) -> Vec<Change> {
+    /// What has changed since by an entry of so many steps, which is taken over. One step visits no pixel.
+    fn changes(&mut self, session: &Session, steps: u64) -> Vec<Change> {
+        if steps <= 1 {
+            return Vec::new();
+        }
         let width = session.panel.board().width();
         let mut changes = Vec::new();
         for number in [DISPLAY, VIRTUAL] {
