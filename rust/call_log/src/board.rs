@@ -28,24 +28,22 @@ impl Log {
         }
     }
 
-    /// Writes a call and what it handed back. After an error no more is written.
+    /// Writes a call and what it handed back, at once, so that the log of a program that stops has all its calls. After an
+    /// error no more is written.
     fn write(&mut self, call: &Call, outcome: Option<&Outcome>) {
         let (Some(output), None) = (&mut self.output, &self.error) else {
             return;
         };
-        let written = match outcome {
-            Some(outcome) => writeln!(output, "{call} = {outcome}"),
-            None => writeln!(output, "{call}"),
+        let line = match outcome {
+            Some(outcome) => format!("{call} = {outcome}\n"),
+            None => format!("{call}\n"),
         };
-        self.error = written.err();
+        let written = output.write_all(line.as_bytes());
+        self.error = written.and_then(|()| output.flush()).err();
     }
 
     fn finish(self) -> io::Result<()> {
-        match (self.error, self.output) {
-            (Some(error), _) => Err(error),
-            (None, Some(mut output)) => output.flush(),
-            (None, None) => Ok(()),
-        }
+        self.error.map_or(Ok(()), Err)
     }
 }
 

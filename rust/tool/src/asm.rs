@@ -230,12 +230,15 @@ mod tests {
             ("XY2 12 3", "1:8: '3' is not 'by'"),
             (
                 "XY3 middle",
-                "1:5: 'middle' is not a direction as upper-left",
+                "1:5: 'middle' is not a direction such as upper-left",
             ),
-            ("CMD LIN copy", "1:5: 'LIN' is not an opcode as LINE"),
-            ("CMD LINE", "1:9: a raster code as copy is missing"),
+            ("CMD LIN copy", "1:5: 'LIN' is not an opcode such as LINE"),
+            ("CMD LINE", "1:9: a raster code such as copy is missing"),
             ("CMD LINE 16", "1:10: '16' is not 0 to 15"),
-            ("CMD LINE copy SOILD", "1:15: 'SOILD' is too much"),
+            (
+                "CMD LINE copy SOILD",
+                "1:15: 'SOILD' is not a flag such as SOLID",
+            ),
             ("PCTRL length 33 scale 1", "1:14: '33' is not 1 to 32"),
             ("PCTRL scale 1", "1:7: 'scale' is not 'length'"),
             (

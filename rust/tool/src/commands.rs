@@ -50,7 +50,7 @@ const FROM_VIRTUAL: Opt = with_value(
 const BUFFER: Opt = with_value(
     "buffer",
     "NAME",
-    "the buffer that is shown: display or virtual",
+    "the buffer that is shown or written: display or virtual",
 );
 const COLOR: Opt = with_value(
     "color",

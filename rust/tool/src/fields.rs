@@ -57,7 +57,7 @@ fn write_pattern(word: u32, out: &mut String) -> fmt::Result {
     }
 }
 
-/// Reads the fields of a register of this name; other tokens may follow.
+/// Reads the fields of a register of this name.
 pub fn read(form: Form, name: &str, tokens: &mut Tokens) -> Result<u32, Fault> {
     match form {
         Form::Command => read_command(tokens),
@@ -80,7 +80,7 @@ pub fn read(form: Form, name: &str, tokens: &mut Tokens) -> Result<u32, Fault> {
         }
         Form::Corner => match tokens.named(DIRECTIONS.map(|row| (row.0.word(), row.1))) {
             Some(word) => Ok(word),
-            None => tokens.number("a direction as upper-left", 0, u32::MAX.into()),
+            None => tokens.number("a direction such as upper-left", 0, u32::MAX.into()),
         },
     }
 }
@@ -94,13 +94,13 @@ fn coordinate(tokens: &mut Tokens, name: &str) -> Result<u32, Fault> {
 fn read_command(tokens: &mut Tokens) -> Result<u32, Fault> {
     let opcode = match tokens.named(OPCODES.map(|row| (row.0 as u32, row.1))) {
         Some(opcode) => opcode,
-        None => tokens.number("an opcode as LINE", 0, 15)?,
+        None => tokens.number("an opcode such as LINE", 0, 15)?,
     };
     let codes = (0..).zip(RASTER_CODES);
     let code = match tokens.named(codes) {
         Some(code) => code,
         None if opcode == Opcode::Noop as u32 && tokens.peek().is_none() => 0,
-        None => tokens.number("a raster code as copy", 0, 15)?,
+        None => tokens.number("a raster code such as copy", 0, 15)?,
     };
     let mut word = opcode << 28 | code << 24;
     loop {
@@ -108,6 +108,8 @@ fn read_command(tokens: &mut Tokens) -> Result<u32, Fault> {
             word |= flag;
         } else if let Some(unused) = tokens.hex() {
             word |= unused;
+        } else if tokens.peek().is_some() {
+            return Err(tokens.wanted("a flag such as SOLID"));
         } else {
             return Ok(word);
         }

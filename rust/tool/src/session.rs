@@ -2,7 +2,6 @@
 //! with.
 
 use std::fs::File;
-use std::io::BufWriter;
 
 use call_log::{Log, Panel};
 use pramolyt::list::MAX_ENTRIES;
@@ -131,7 +130,7 @@ pub fn board(given: &Given) -> Result<Panel, Failure> {
     let log = match given.value("log") {
         None => Log::none(),
         Some(name) => match File::create(name) {
-            Ok(file) => Log::to(BufWriter::new(file)),
+            Ok(file) => Log::to(file),
             Err(error) => return Err(Failure::writing(&name.to_string_lossy(), &error)),
         },
     };

@@ -70,7 +70,7 @@ impl<'a> Tokens<'a> {
     }
 
     /// A fault that says what was to stand in place of the next token.
-    fn wanted(&self, wanted: &str) -> Fault {
+    pub fn wanted(&self, wanted: &str) -> Fault {
         self.fault(match self.peek() {
             Some(token) => format!("'{token}' is not {wanted}"),
             None => format!("{wanted} is missing"),
