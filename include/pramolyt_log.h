@@ -47,6 +47,14 @@ static inline uint32_t pramolyt_log_end(uint32_t answer)
     return answer;
 }
 
+/* The bytes that a call was given and what it answered, as the end of its line. */
+static inline uint32_t pramolyt_log_given(const uint8_t *bytes, size_t length, size_t group, uint32_t answer)
+{
+    pramolyt_log_bytes(bytes, length, group);
+    fprintf(pramolyt_log, " = %" PRIu32, answer);
+    return pramolyt_log_end(answer);
+}
+
 /* To be called where the program itself writes over list memory from entry `first` on, which no call of the library does. */
 static inline void pramolyt_log_overwrite(size_t first, const uint8_t *bytes, size_t bytes_len)
 {
@@ -85,9 +93,7 @@ static inline uint32_t pramolyt_logged_store(pramolyt_board *board, uint8_t *lis
     if (pramolyt_log == NULL)
         return answer;
     fprintf(pramolyt_log, "store %zu", first);
-    pramolyt_log_bytes(bytes, bytes_len, PRAMOLYT_LOG_ENTRIES);
-    fprintf(pramolyt_log, " = %" PRIu32, answer);
-    return pramolyt_log_end(answer);
+    return pramolyt_log_given(bytes, bytes_len, PRAMOLYT_LOG_ENTRIES, answer);
 }
 
 static inline uint32_t pramolyt_logged_feed(pramolyt_board *board, pramolyt_feed_record *feed, uint8_t *list, size_t list_len,
@@ -114,9 +120,7 @@ static inline uint32_t pramolyt_logged_window_write(pramolyt_board *board, size_
     if (pramolyt_log == NULL)
         return answer;
     fprintf(pramolyt_log, "write %zu %zu", number, offset);
-    pramolyt_log_bytes(bytes, bytes_len, PRAMOLYT_LOG_PIXELS);
-    fprintf(pramolyt_log, " = %" PRIu32, answer);
-    return pramolyt_log_end(answer);
+    return pramolyt_log_given(bytes, bytes_len, PRAMOLYT_LOG_PIXELS, answer);
 }
 
 static inline uint32_t pramolyt_logged_export(pramolyt_board *board, uint64_t *written, size_t number, const uint8_t *buffer,
@@ -140,9 +144,7 @@ static inline uint32_t pramolyt_logged_import(pramolyt_board *board, size_t numb
     if (pramolyt_log == NULL)
         return answer;
     fprintf(pramolyt_log, "import %zu", number);
-    pramolyt_log_bytes(picture, picture_len, PRAMOLYT_LOG_PIXELS);
-    fprintf(pramolyt_log, " = %" PRIu32, answer);
-    return pramolyt_log_end(answer);
+    return pramolyt_log_given(picture, picture_len, PRAMOLYT_LOG_PIXELS, answer);
 }
 
 static inline uint32_t pramolyt_logged_run(pramolyt_board *board, uint64_t *steps, uint64_t budget, const uint8_t *list,

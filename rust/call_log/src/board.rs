@@ -1,7 +1,8 @@
 //! A board that writes the log of its calls.
 
+use std::fs::File;
 use std::io::{self, Write};
-use std::mem;
+use std::{env, mem};
 
 use pramolyt::{Answer, Board, Feed};
 
@@ -25,6 +26,18 @@ impl Log {
         Log {
             output: Some(Box::new(output)),
             error: None,
+        }
+    }
+
+    /// The log is written to the file that the program's argument at this place names, if there is one.
+    ///
+    /// # Errors
+    ///
+    /// The file cannot be written.
+    pub fn to_argument(place: usize) -> io::Result<Log> {
+        match env::args_os().nth(place) {
+            Some(name) => Ok(Log::to(File::create(name)?)),
+            None => Ok(Log::none()),
         }
     }
 

@@ -1,4 +1,5 @@
-//! A log of the calls made to a board: a text, a call a line, with its bytes and what it answered. `docs/LOG.md` has the format.
+//! A log of the calls made to a board: a text, a call a line, with its bytes and what it answered. `docs/LOG.md` has the
+//! format.
 //!
 //! [`LoggedBoard`] takes the place of a [`Board`](pramolyt::Board) in a program and writes the log:
 //!

@@ -8,8 +8,7 @@
 
 use std::error::Error;
 use std::ffi::OsStr;
-use std::fs::{self, File};
-use std::{env, io};
+use std::{env, fs};
 
 use call_log::{Log, LoggedBoard};
 use pramolyt::list::{
@@ -156,16 +155,8 @@ impl Panel {
     }
 }
 
-/// The log of the calls, into the file that the second argument names.
-fn log() -> io::Result<Log> {
-    match env::args_os().nth(2) {
-        Some(name) => Ok(Log::to(File::create(name)?)),
-        None => Ok(Log::none()),
-    }
-}
-
 fn main() -> Result<(), Box<dyn Error>> {
-    let mut panel = Panel::new(log()?)?;
+    let mut panel = Panel::new(Log::to_argument(2)?)?;
     panel.write_font()?;
     panel.draw("the call", &call())?;
     panel.print();

@@ -6,10 +6,7 @@
 //! With a file name as its argument it writes a log of its calls into that file, for `pramolyt replay`. `examples/c/frames.c` is
 //! the same in C.
 
-use std::env;
 use std::error::Error;
-use std::fs::File;
-use std::io;
 
 use call_log::{Log, LoggedBoard};
 use pramolyt::Answer;
@@ -227,16 +224,8 @@ impl Panel {
     }
 }
 
-/// The log of the calls, into the file that the argument names.
-fn log() -> io::Result<Log> {
-    match env::args_os().nth(1) {
-        Some(name) => Ok(Log::to(File::create(name)?)),
-        None => Ok(Log::none()),
-    }
-}
-
 fn main() -> Result<(), Box<dyn Error>> {
-    let mut panel = Panel::new(log()?)?;
+    let mut panel = Panel::new(Log::to_argument(1)?)?;
     panel.store(0, ENTRIES).ok()?;
     println!("{LISTS} lists of {COUNT} entries, {BUDGET} steps a frame");
     panel.run_frames()?;

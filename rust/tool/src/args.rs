@@ -188,38 +188,38 @@ fn take_option(
     rest: &mut impl Iterator<Item = OsString>,
     given: &mut Given,
 ) -> Result<(), Failure> {
-    let unknown = || Failure::Misuse(format!("there is no option {}", arg.to_string_lossy()));
+    let Some((option, value)) = option_of(command, arg) else {
+        let message = format!("there is no option {}", arg.to_string_lossy());
+        return Err(Failure::Misuse(message));
+    };
+    let name = option.name;
+    let value = match (option.value, value) {
+        (Some(_), Some(value)) => value.to_owned(),
+        (Some(wanted), None) => rest
+            .next()
+            .ok_or_else(|| Failure::Misuse(format!("--{name}: {wanted} is missing")))?,
+        (None, None) => OsString::new(),
+        (None, Some(_)) => return Err(Failure::Misuse(format!("--{name} takes no value"))),
+    };
+    given.values.push((name, value));
+    Ok(())
+}
+
+/// The option that an argument is, and the value that it has in itself.
+fn option_of<'a>(command: &Command, arg: &'a OsStr) -> Option<(&'static Opt, Option<&'a OsStr>)> {
+    let mut options = command.options.iter();
     let bytes = arg.as_bytes();
-    let (option, value) = if let Some(long) = bytes.strip_prefix(b"--") {
+    if let Some(long) = bytes.strip_prefix(b"--") {
         let long = OsStr::from_bytes(long);
         let (name, value) = match split(long, '=') {
             Some((name, value)) => (name, Some(value)),
             None => (long, None),
         };
-        (
-            command.options.iter().find(|option| name == option.name),
-            value,
-        )
-    } else {
-        let letter = char::from(bytes[1]);
-        let value = Some(&bytes[2..]).filter(|value| !value.is_empty());
-        let option = command
-            .options
-            .iter()
-            .find(|option| option.letter == Some(letter));
-        (option, value.map(OsStr::from_bytes))
-    };
-    let option = option.ok_or_else(unknown)?;
-    let value = match (option.value, value) {
-        (Some(_), Some(value)) => value.to_owned(),
-        (Some(wanted), None) => rest
-            .next()
-            .ok_or_else(|| Failure::Misuse(format!("--{}: {wanted} is missing", option.name)))?,
-        (None, None) => OsString::new(),
-        (None, Some(_)) => {
-            return Err(Failure::Misuse(format!("--{} takes no value", option.name)));
-        }
-    };
-    given.values.push((option.name, value));
-    Ok(())
+        let option = options.find(|option| name == option.name)?;
+        return Some((option, value));
+    }
+    let letter = char::from(*bytes.get(1)?);
+    let option = options.find(|option| option.letter == Some(letter))?;
+    let value = Some(&bytes[2..]).filter(|value| !value.is_empty());
+    Some((option, value.map(OsStr::from_bytes)))
 }

@@ -3,8 +3,8 @@
 use pramolyt::list::{ENTRY_BYTES, MAX_ENTRIES};
 use pramolyt::{FileAnswer, pack, packed_size};
 
-/// The places of the illegal entries among these, of which there are [`MAX_ENTRIES`] at most. The library's converter
-/// judges entries as a post does, each by itself; it names the first illegal one and is asked again for the entries after it.
+/// The places of the illegal entries among these, of which there are [`MAX_ENTRIES`] at most. The library's converter judges
+/// entries as a post does, each by itself; it names the first illegal one, and is asked again for those after it.
 pub fn illegal_places(entries: &[u8]) -> Vec<usize> {
     let mut output = [0; packed_size(MAX_ENTRIES)];
     let mut illegal = Vec::new();

@@ -1,5 +1,5 @@
-//! The names of the list format: registers, and the fields of their words. Here and in `reasons` is all that the tool knows of
-//! the format; a new register, flag or opcode is a line in a table of each.
+//! The names of the list format: registers, and the fields of their words. Here and in `reasons` is all that the tool knows
+//! of the format; a new register, flag or opcode is a line in a table of each.
 
 use pramolyt::list::{Direction, Flags, Opcode, Register};
 

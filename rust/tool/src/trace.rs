@@ -85,13 +85,14 @@ fn line(session: &Session, place: usize, steps: u64, changes: &[Change]) -> Stri
     text.push_str("  ");
     write_entry(entry, &mut text);
     let unit = if steps == 1 { "step" } else { "steps" };
-    let mut line = format!("{text:<50}  {steps} {unit}");
+    let mut line = format!("{text:<44}{steps:>6} {unit:<5}");
     for change in changes {
         line += &format!("  {change}");
     }
     if steps > 1 && changes.is_empty() {
         line += "  nothing changed";
     }
+    line.truncate(line.trim_end().len());
     line + "\n"
 }
 
