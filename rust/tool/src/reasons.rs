@@ -81,9 +81,13 @@ pub fn reasons(entry: [u8; ENTRY_BYTES]) -> Vec<String> {
     reasons
 }
 
-/// The grounds, in one line.
+/// The grounds on which an illegal entry is so, in one line.
 pub fn reason(entry: [u8; ENTRY_BYTES]) -> String {
-    reasons(entry).join(", ")
+    let reasons = reasons(entry);
+    if reasons.is_empty() {
+        return "the library refuses it, for a reason that this program does not know".into();
+    }
+    reasons.join(", ")
 }
 
 fn word_reasons(register: Register, word: u32) -> Vec<String> {

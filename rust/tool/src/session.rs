@@ -2,6 +2,7 @@
 //! with.
 
 use std::fs::File;
+use std::io;
 
 use call_log::{Log, Panel};
 use pramolyt::list::MAX_ENTRIES;
@@ -129,6 +130,7 @@ pub fn board(given: &Given) -> Result<Panel, Failure> {
     let (width, height) = given.size()?;
     let log = match given.value("log") {
         None => Log::none(),
+        Some(name) if name == "-" => Log::to(io::stdout()),
         Some(name) => match File::create(name) {
             Ok(file) => Log::to(file),
             Err(error) => return Err(Failure::writing(&name.to_string_lossy(), &error)),

@@ -7,7 +7,7 @@ use pramolyt::{DISPLAY, VIRTUAL};
 
 use crate::args::Given;
 use crate::dis::{write_digits, write_entry};
-use crate::failure::Failure;
+use crate::failure::{Failure, complain};
 use crate::files::Output;
 use crate::paint::Painter;
 use crate::progress::Progress;
@@ -41,20 +41,25 @@ fn trace(pictures: &Pictures, session: &mut Session) -> Result<(), Failure> {
     let mut output = Output::new();
     let mut progress = Progress::beside_output("trace");
     let mut before = Snapshot::of(session);
-    let mut total = 0;
+    let (mut total, mut note) = (0, None);
     for place in 0..session.list.len() / ENTRY_BYTES {
         let steps = step(session, place)?;
         total += steps;
         let changes = before.changes(session, steps);
         output.write(line(session, place, steps, &changes).as_bytes())?;
         for number in pictures.after(place, &changes) {
-            output.write(session.paint(&pictures.painter, number).0.as_bytes())?;
+            let (picture, cut) = session.paint(&pictures.painter, number);
+            output.write(picture.as_bytes())?;
+            note = note.or(cut);
         }
         progress.tick(|| format!("entry {place}, {total} steps"));
     }
     drop(progress);
     output.write(session.summary(total).as_bytes())?;
     output.flush()?;
+    if let Some(note) = note {
+        complain(&note);
+    }
     session.log_picture(pictures.number)
 }
 

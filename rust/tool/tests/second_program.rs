@@ -2,7 +2,7 @@
 //! answers and places.
 
 use std::fs;
-use std::path::{Path, PathBuf};
+use std::path::Path;
 use std::process::{Command, Output};
 
 use compare::lists::{Size, list};
@@ -11,26 +11,6 @@ use reference::{Record, Report};
 
 /// The entries of list memory.
 const ENTRIES: usize = 4_096;
-
-/// A folder that is removed at the end.
-struct Folder {
-    path: PathBuf,
-}
-
-impl Folder {
-    fn new() -> Folder {
-        let name = format!("pramolyt-second-program-{}", std::process::id());
-        let path = std::env::temp_dir().join(name);
-        fs::create_dir(&path).expect("a folder of this name is not there yet");
-        Folder { path }
-    }
-}
-
-impl Drop for Folder {
-    fn drop(&mut self) {
-        let _ = fs::remove_dir_all(&self.path);
-    }
-}
 
 /// A list on a board of the second program.
 struct Case {
@@ -151,12 +131,13 @@ fn drawn(program: &Program, case: &mut Case, budget: &str) {
 
 #[test]
 fn random_lists() {
-    let folder = Folder::new();
+    let folder = Path::new(env!("CARGO_TARGET_TMPDIR")).join("second_program");
+    fs::create_dir_all(&folder).expect("a folder");
     let mut random = Random::new(6);
     let (mut legal, mut illegal) = (0, 0);
-    for _ in 0..120 {
+    for _ in 0..300 {
         let mut case = Case::new(&mut random);
-        let program = Program::new(&folder.path, &mut case);
+        let program = Program::new(&folder, &mut case);
         let report = case.post();
         match report.number {
             0 => {
@@ -171,7 +152,7 @@ fn random_lists() {
         }
     }
     assert!(
-        legal > 80 && illegal > 5,
+        legal > 200 && illegal > 15,
         "{legal} legal, {illegal} illegal"
     );
 }
