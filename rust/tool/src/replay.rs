@@ -33,7 +33,11 @@ pub fn run(given: &Given) -> Result<u8, Failure> {
         differences: 0,
     };
     let mut reader = Reader::new(input.buffered());
-    let mut progress = Progress::new("replay");
+    let mut progress = if replay.verbose {
+        Progress::beside_output("replay")
+    } else {
+        Progress::new("replay")
+    };
     loop {
         let next = reader.next_call();
         let next = next.map_err(|trouble| Failure::reading_text(&replay.name, trouble))?;

@@ -23,30 +23,30 @@ pub struct Session<'a> {
 }
 
 impl<'a> Session<'a> {
-    /// Makes the board and reads all files; nothing is stored yet.
+    /// Reads all files, makes the board and imports its pictures; the list is not stored yet. The log is begun when everything
+    /// has been read.
     pub fn open(given: &'a Given) -> Result<Session<'a>, Failure> {
-        let panel = board(given)?;
+        given.size()?;
         let input = Input::open(&given.file)?;
         let name = input.name.clone();
-        let mut session = Session {
+        let list = input.read_all()?;
+        let mut pictures = Vec::new();
+        for (option, number) in [("from", DISPLAY), ("from-virtual", VIRTUAL)] {
+            if let Some(name) = given.value(option) {
+                let input = Input::open(name)?;
+                pictures.push((number, input.name.clone(), input.read_all()?));
+            }
+        }
+        let mut panel = board(given)?;
+        for (number, name, picture) in pictures {
+            import(&mut panel, number, &name, &picture)?;
+        }
+        Ok(Session {
             given,
             panel,
             name,
-            list: input.read_all()?,
-        };
-        session.import("from", DISPLAY)?;
-        session.import("from-virtual", VIRTUAL)?;
-        Ok(session)
-    }
-
-    /// Reads the picture of an option into a buffer.
-    fn import(&mut self, option: &str, number: usize) -> Result<(), Failure> {
-        let Some(name) = self.given.value(option) else {
-            return Ok(());
-        };
-        let input = Input::open(name)?;
-        let name = input.name.clone();
-        import(&mut self.panel, number, &name, &input.read_all()?)
+            list,
+        })
     }
 
     /// Stores the list.

@@ -40,10 +40,8 @@ fn show(given: &Given, wanted: &Wanted, session: &mut Session) -> Result<(), Fai
     if given.has("output") {
         let picture = session.export(wanted.number)?;
         write_file(given.output(), &picture, true)?;
-        return match given.output() == "-" {
-            true => Ok(()),
-            false => print(&summary),
-        };
+        let alone = given.output() == "-";
+        return print(if alone { "" } else { &summary });
     }
     session.log_picture(wanted.number)?;
     let (text, note) = session.paint(&wanted.painter, wanted.number);

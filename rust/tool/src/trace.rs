@@ -120,10 +120,15 @@ struct Change {
 
 impl fmt::Display for Change {
     fn fmt(&self, f: &mut fmt::Formatter<'_>) -> fmt::Result {
-        let name = ["display", "virtual"][self.number];
-        let Change { left, top, .. } = self;
-        let Change { right, bottom, .. } = self;
-        let pixels = self.pixels;
+        let Change {
+            number,
+            left,
+            top,
+            right,
+            bottom,
+            pixels,
+        } = *self;
+        let name = ["display", "virtual"][number];
         let unit = if pixels == 1 { "pixel" } else { "pixels" };
         write!(
             f,
