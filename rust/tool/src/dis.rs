@@ -45,11 +45,11 @@ pub fn write_digits(entry: [u8; ENTRY_BYTES], out: &mut String) {
 
 /// How a line is written: with place and digits, or with the fields alone where they say it all.
 #[derive(Clone, Copy)]
-struct Style {
+struct Layout {
     bare: bool,
 }
 
-impl Style {
+impl Layout {
     /// Writes a line.
     fn write(self, place: u64, entry: [u8; ENTRY_BYTES], illegal: bool, out: &mut String) {
         let start = out.len();
@@ -90,7 +90,7 @@ impl Style {
 /// Hands the lines of all entries of the input to `write`, and gives their number and how many bytes are left over.
 fn disassemble(
     mut input: Input,
-    style: Style,
+    layout: Layout,
     mut write: impl FnMut(&[u8]) -> Result<(), Failure>,
 ) -> Result<(u64, usize), Failure> {
     let mut progress = Progress::beside_output("dis");
@@ -100,7 +100,7 @@ fn disassemble(
         let batch = input.read_up_to(ENTRY_BYTES * MAX_ENTRIES)?;
         let whole = batch.len() / ENTRY_BYTES;
         text.clear();
-        style.write_all(place, &batch[..ENTRY_BYTES * whole], &mut text);
+        layout.write_all(place, &batch[..ENTRY_BYTES * whole], &mut text);
         write(text.as_bytes())?;
         place += whole as u64;
         progress.tick(|| format!("{place} entries"));
@@ -111,13 +111,13 @@ fn disassemble(
 }
 
 pub fn run(given: &Given) -> Result<u8, Failure> {
-    let style = Style {
+    let layout = Layout {
         bare: given.has("bare"),
     };
     let input = Input::open(&given.file)?;
     let name = input.name.clone();
     let mut output = Output::new();
-    let (entries, left) = disassemble(input, style, |text| output.write(text))?;
+    let (entries, left) = disassemble(input, layout, |text| output.write(text))?;
     output.flush()?;
     match left {
         0 => Ok(0),
@@ -129,7 +129,7 @@ pub fn run(given: &Given) -> Result<u8, Failure> {
 
 #[cfg(test)]
 mod tests {
-    use super::{Style, disassemble};
+    use super::{Layout, disassemble};
     use crate::asm::assemble;
     use crate::files::Input;
     use compare::lists::{Size, doubtful_entry, legal_entry};
@@ -147,7 +147,7 @@ mod tests {
             text.extend(lines);
             Ok(())
         };
-        disassemble(input, Style { bare }, write).expect("memory");
+        disassemble(input, Layout { bare }, write).expect("memory");
         String::from_utf8(text).expect("text")
     }
 

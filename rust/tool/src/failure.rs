@@ -12,7 +12,7 @@ pub enum Failure {
     /// The command is used wrongly.
     Misuse(String),
     /// A file cannot be read or written.
-    Trouble(String),
+    File(String),
     /// Nobody reads the output any more.
     ClosedPipe,
 }
@@ -22,7 +22,7 @@ impl Failure {
     pub fn status(&self) -> u8 {
         match self {
             Failure::Refused(_) => 1,
-            Failure::Misuse(_) | Failure::Trouble(_) => 2,
+            Failure::Misuse(_) | Failure::File(_) => 2,
             Failure::ClosedPipe => 0,
         }
     }
@@ -30,21 +30,21 @@ impl Failure {
     /// What is said of it, if anything.
     pub fn message(&self) -> Option<&str> {
         match self {
-            Failure::Refused(text) | Failure::Misuse(text) | Failure::Trouble(text) => Some(text),
+            Failure::Refused(text) | Failure::Misuse(text) | Failure::File(text) => Some(text),
             Failure::ClosedPipe => None,
         }
     }
 
     /// A file that cannot be read.
     pub fn reading(name: &str, error: &io::Error) -> Failure {
-        Failure::Trouble(format!("{name}: {}", words(error)))
+        Failure::File(format!("{name}: {}", words(error)))
     }
 
     /// A file that cannot be written.
     pub fn writing(name: &str, error: &io::Error) -> Failure {
         match error.kind() {
             io::ErrorKind::BrokenPipe => Failure::ClosedPipe,
-            _ => Failure::Trouble(format!("{name}: {}", words(error))),
+            _ => Failure::File(format!("{name}: {}", words(error))),
         }
     }
 

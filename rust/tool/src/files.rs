@@ -54,7 +54,7 @@ impl Input {
         if bytes.len() > MOST_BYTES {
             let name = self.name;
             let message = format!("{name}: the file has more than {MOST_BYTES} bytes");
-            return Err(Failure::Trouble(message));
+            return Err(Failure::File(message));
         }
         Ok(bytes)
     }

@@ -96,7 +96,7 @@ impl<'a> Session<'a> {
         Failure::Refused(format!("{}: {answer}", self.name))
     }
 
-    /// The last line, as the program `draw` has it.
+    /// Answer, steps and state in a line, as the program `draw` has it.
     pub fn summary(&self, steps: u64) -> String {
         let idle = self.panel.board().is_idle();
         let state = if idle { "idle" } else { "paused" };
