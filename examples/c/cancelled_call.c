@@ -155,22 +155,14 @@ static void write_picture(const char *name)
     }
 }
 
-/* The calls from here on are written to a file. */
-static void open_log(const char *name)
-{
-    pramolyt_log = fopen(name, "w");
-    if (pramolyt_log == NULL) {
-        perror(name);
-        exit(1);
-    }
-}
-
 int main(int argc, char **argv)
 {
     display_list first = call(), second = bar();
     uint8_t before[sizeof display];
-    if (argc > 2)
-        open_log(argv[2]);
+    if (argc > 2 && (pramolyt_log = fopen(argv[2], "w")) == NULL) {
+        perror(argv[2]);
+        return 1;
+    }
     check("make", pramolyt_make(&board, WIDTH, HEIGHT, ENTRIES));
     write_font();
     draw("the call", &first);

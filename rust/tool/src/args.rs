@@ -149,8 +149,10 @@ pub enum Asked {
 }
 
 /// Reads what stands after the name of a subcommand.
-pub fn parse(command: &Command, args: impl Iterator<Item = OsString>) -> Result<Asked, Failure> {
-    let mut args = args;
+pub fn parse(
+    command: &Command,
+    mut args: impl Iterator<Item = OsString>,
+) -> Result<Asked, Failure> {
     let mut given = Given::default();
     let mut files = Vec::new();
     let mut options_end = false;

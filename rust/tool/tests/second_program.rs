@@ -1,5 +1,5 @@
-//! What `show`, `trace` and `check` say of random lists, held against the second program: pictures of both buffers, steps,
-//! answers and places.
+//! What `show`, `trace`, `replay` and `check` say of random lists, held against the second program: pictures of both buffers,
+//! steps, answers and places.
 
 use std::fs;
 use std::path::Path;
@@ -114,19 +114,21 @@ fn refused(program: &Program, report: Report) {
     }
 }
 
-/// The list is drawn: the pictures and the steps are the second program's.
+/// The list is drawn: the pictures and the steps are the second program's, in one go, entry by entry, and by the log of that.
 fn drawn(program: &Program, case: &mut Case, budget: &str) {
     let report = case.run();
     assert_eq!(report.number, 0);
     assert_eq!(program.run(&["check", "list"]).status.code(), Some(0));
-    for (number, buffer) in ["display", "virtual"].into_iter().enumerate() {
-        let buffer = format!("--buffer={buffer}");
-        let output = program.run_on_board(&["show", &buffer, "-o", "-", "--budget", budget]);
-        assert_eq!(output.stdout, case.picture(number), "{output:?}");
-    }
-    let traced = program.run_on_board(&["trace"]);
+    let traced = program.run_on_board(&["trace", "--log=log"]);
     let last = format!("answer 0 steps {} idle\n", report.steps);
     assert!(traced.stdout.ends_with(last.as_bytes()), "{traced:?}");
+    for (number, buffer) in ["display", "virtual"].into_iter().enumerate() {
+        let buffer = format!("--buffer={buffer}");
+        let shown = program.run_on_board(&["show", &buffer, "-o", "-", "--budget", budget]);
+        assert_eq!(shown.stdout, case.picture(number), "{shown:?}");
+        let replayed = program.run(&["replay", "log", &buffer, "-o", "-"]);
+        assert_eq!(replayed.stdout, case.picture(number), "{replayed:?}");
+    }
 }
 
 #[test]
