@@ -1,7 +1,7 @@
 # The C library and the program, by GNU make: `make` proves and builds the library, `make check` runs every test, and `make
-# install` installs both. `make install-library` takes the headers, the archive that `make` built, pramolyt.pc for pkg-config and the
-# manual page; `make install-tool` builds the program pramolyt by cargo and takes it, its manual page and its completion for bash.
-# DESTDIR is put before each folder.
+# install` installs both. `make install-library` takes the headers, the archive that `make` built, pramolyt.pc for pkg-config
+# and the manual page; `make install-tool` builds the program pramolyt by cargo, and takes it, its manual page and its
+# completion for bash. DESTDIR is put before each folder.
 PREFIX ?= /usr/local
 bindir ?= $(PREFIX)/bin
 includedir ?= $(PREFIX)/include

@@ -18,7 +18,7 @@ mod posting;
 mod progress;
 mod reasons;
 mod replay;
-mod session;
+mod setup;
 mod show;
 mod terminal;
 mod tokens;

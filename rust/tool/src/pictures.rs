@@ -5,19 +5,19 @@ use pramolyt::DISPLAY;
 use crate::args::Given;
 use crate::failure::Failure;
 use crate::files::{Input, write_file};
-use crate::session;
+use crate::setup;
 
 pub fn import(given: &Given) -> Result<u8, Failure> {
-    let mut panel = session::board(given)?;
+    let mut panel = setup::board(given)?;
     let input = Input::open(&given.file)?;
     let name = input.name.clone();
-    session::import(&mut panel, DISPLAY, &name, &input.read_all()?)?;
+    setup::import(&mut panel, DISPLAY, &name, &input.read_all()?)?;
     write_file(given.output(), panel.buffer(DISPLAY), true)?;
     Ok(0)
 }
 
 pub fn export(given: &Given) -> Result<u8, Failure> {
-    let mut panel = session::board(given)?;
+    let mut panel = setup::board(given)?;
     let input = Input::open(&given.file)?;
     let name = input.name.clone();
     let bytes = input.read_all()?;

@@ -7,7 +7,7 @@ use crate::failure::{Failure, complain};
 use crate::files::{Input, print, write_file};
 use crate::posting::illegal;
 use crate::progress::Progress;
-use crate::session::buffer;
+use crate::setup::buffer;
 
 /// A log while it is played.
 struct Replay {

@@ -5,7 +5,7 @@ use crate::failure::{Failure, complain};
 use crate::files::{print, write_file};
 use crate::paint::Painter;
 use crate::progress::Progress;
-use crate::session::{Session, buffer};
+use crate::setup::{Setup, buffer};
 
 /// The steps of a run where no budget is given: so many take part of a second, after which progress is told.
 const BUDGET: u64 = 50_000_000;
@@ -26,25 +26,25 @@ pub fn run(given: &Given) -> Result<u8, Failure> {
         number: buffer(given)?,
         painter: Painter::new(given)?,
     };
-    let mut session = Session::open(given)?;
-    let shown = show(given, &wanted, &mut session);
-    session.finish()?;
+    let mut setup = Setup::open(given)?;
+    let shown = show(given, &wanted, &mut setup);
+    setup.finish()?;
     shown.map(|()| 0)
 }
 
-fn show(given: &Given, wanted: &Wanted, session: &mut Session) -> Result<(), Failure> {
-    session.store()?;
-    session.post()?;
-    let steps = run_all(session, wanted.budget, wanted.runs)?;
-    let summary = session.summary(steps);
+fn show(given: &Given, wanted: &Wanted, setup: &mut Setup) -> Result<(), Failure> {
+    setup.store()?;
+    setup.post()?;
+    let steps = run_all(setup, wanted.budget, wanted.runs)?;
+    let summary = setup.summary(steps);
     if given.has("output") {
-        let picture = session.export(wanted.number)?;
+        let picture = setup.export(wanted.number)?;
         write_file(given.output(), &picture, true)?;
         let alone = given.output() == "-";
         return print(if alone { "" } else { &summary });
     }
-    session.log_picture(wanted.number)?;
-    let (text, note) = session.paint(&wanted.painter, wanted.number);
+    setup.log_picture(wanted.number)?;
+    let (text, note) = setup.paint(&wanted.painter, wanted.number);
     print(&(summary + &text))?;
     if let Some(note) = note {
         complain(&note);
@@ -53,15 +53,15 @@ fn show(given: &Given, wanted: &Wanted, session: &mut Session) -> Result<(), Fai
 }
 
 /// Runs of the budget's steps, so many at most, until nothing is left. The steps of all.
-fn run_all(session: &mut Session, budget: u64, runs: u64) -> Result<u64, Failure> {
+fn run_all(setup: &mut Setup, budget: u64, runs: u64) -> Result<u64, Failure> {
     let mut progress = Progress::new("show");
     let (mut steps, mut done) = (0, 0);
-    while done < runs && !session.panel.board().is_idle() {
-        steps += session.run(budget)?;
+    while done < runs && !setup.panel.board().is_idle() {
+        steps += setup.run(budget)?;
         done += 1;
         progress.tick(|| {
-            let next = session.panel.board().next_entry();
-            let count = session.list.len() / 5;
+            let next = setup.panel.board().next_entry();
+            let count = setup.list.len() / 5;
             format!("entry {next} of {count}, {steps} steps")
         });
     }

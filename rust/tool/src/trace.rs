@@ -11,7 +11,7 @@ use crate::failure::{Failure, complain};
 use crate::files::Output;
 use crate::paint::Painter;
 use crate::progress::Progress;
-use crate::session::{Session, buffer};
+use crate::setup::{Setup, buffer};
 
 /// Which pictures are shown: after each entry that changed a pixel, or after one entry.
 struct Pictures {
@@ -29,38 +29,38 @@ pub fn run(given: &Given) -> Result<u8, Failure> {
         at: given.number("at", 0, u64::MAX)?,
         number: buffer(given)?,
     };
-    let mut session = Session::open(given)?;
-    let traced = trace(&pictures, &mut session);
-    session.finish()?;
+    let mut setup = Setup::open(given)?;
+    let traced = trace(&pictures, &mut setup);
+    setup.finish()?;
     traced.map(|()| 0)
 }
 
-fn trace(pictures: &Pictures, session: &mut Session) -> Result<(), Failure> {
-    session.store()?;
-    session.judge()?;
+fn trace(pictures: &Pictures, setup: &mut Setup) -> Result<(), Failure> {
+    setup.store()?;
+    setup.judge()?;
     let mut output = Output::new();
     let mut progress = Progress::beside_output("trace");
-    let mut before = Snapshot::of(session);
+    let mut before = Snapshot::of(setup);
     let (mut total, mut note) = (0, None);
-    for place in 0..session.list.len() / ENTRY_BYTES {
-        let steps = step(session, place)?;
+    for place in 0..setup.list.len() / ENTRY_BYTES {
+        let steps = step(setup, place)?;
         total += steps;
-        let changes = before.changes(session, steps);
-        output.write(line(session, place, steps, &changes).as_bytes())?;
+        let changes = before.changes(setup, steps);
+        output.write(line(setup, place, steps, &changes).as_bytes())?;
         for number in pictures.after(place, &changes) {
-            let (picture, cut) = session.paint(&pictures.painter, number);
+            let (picture, cut) = setup.paint(&pictures.painter, number);
             output.write(picture.as_bytes())?;
             note = note.or(cut);
         }
         progress.tick(|| format!("entry {place}, {total} steps"));
     }
     drop(progress);
-    output.write(session.summary(total).as_bytes())?;
+    output.write(setup.summary(total).as_bytes())?;
     output.flush()?;
     if let Some(note) = note {
         complain(&note);
     }
-    session.log_picture(pictures.number)
+    setup.log_picture(pictures.number)
 }
 
 impl Pictures {
@@ -75,15 +75,15 @@ impl Pictures {
 }
 
 /// Runs one entry, posted as a list of its own: registers, pattern and last point carry over. Its steps.
-fn step(session: &mut Session, place: usize) -> Result<u64, Failure> {
-    let posted = session.panel.post(place, 1).ok();
-    posted.map_err(|answer| session.failed(answer))?;
-    session.run(u64::MAX)
+fn step(setup: &mut Setup, place: usize) -> Result<u64, Failure> {
+    let posted = setup.panel.post(place, 1).ok();
+    posted.map_err(|answer| setup.failed(answer))?;
+    setup.run(u64::MAX)
 }
 
 /// The line of an entry.
-fn line(session: &Session, place: usize, steps: u64, changes: &[Change]) -> String {
-    let bytes = &session.list[ENTRY_BYTES * place..][..ENTRY_BYTES];
+fn line(setup: &Setup, place: usize, steps: u64, changes: &[Change]) -> String {
+    let bytes = &setup.list[ENTRY_BYTES * place..][..ENTRY_BYTES];
     let entry = bytes.try_into().expect("an entry");
     let mut text = format!("{place:>4}  ");
     write_digits(entry, &mut text);
@@ -138,20 +138,20 @@ impl fmt::Display for Change {
 }
 
 impl Snapshot {
-    fn of(session: &Session) -> Snapshot {
-        let buffers = [DISPLAY, VIRTUAL].map(|number| session.panel.buffer(number).to_vec());
+    fn of(setup: &Setup) -> Snapshot {
+        let buffers = [DISPLAY, VIRTUAL].map(|number| setup.panel.buffer(number).to_vec());
         Snapshot { buffers }
     }
 
     /// What has changed since by an entry of so many steps, which is taken over. One step visits no pixel.
-    fn changes(&mut self, session: &Session, steps: u64) -> Vec<Change> {
+    fn changes(&mut self, setup: &Setup, steps: u64) -> Vec<Change> {
         if steps <= 1 {
             return Vec::new();
         }
-        let width = session.panel.board().width();
+        let width = setup.panel.board().width();
         let mut changes = Vec::new();
         for number in [DISPLAY, VIRTUAL] {
-            let (before, after) = (&mut self.buffers[number], session.panel.buffer(number));
+            let (before, after) = (&mut self.buffers[number], setup.panel.buffer(number));
             changes.extend(change(number, width, before, after));
         }
         changes

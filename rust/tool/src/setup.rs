@@ -14,7 +14,7 @@ use crate::files::Input;
 use crate::paint::{Painter, Picture};
 use crate::posting::{self, Refusal};
 
-pub struct Session<'a> {
+pub struct Setup<'a> {
     given: &'a Given,
     pub panel: Panel,
     /// The name of the list file in messages, and its bytes.
@@ -22,10 +22,10 @@ pub struct Session<'a> {
     pub list: Vec<u8>,
 }
 
-impl<'a> Session<'a> {
+impl<'a> Setup<'a> {
     /// Reads all files, makes the board and imports its pictures; the list is not stored yet. The log is begun when everything
     /// has been read.
-    pub fn open(given: &'a Given) -> Result<Session<'a>, Failure> {
+    pub fn open(given: &'a Given) -> Result<Setup<'a>, Failure> {
         given.size()?;
         let input = Input::open(&given.file)?;
         let name = input.name.clone();
@@ -41,7 +41,7 @@ impl<'a> Session<'a> {
         for (number, name, picture) in pictures {
             import(&mut panel, number, &name, &picture)?;
         }
-        Ok(Session {
+        Ok(Setup {
             given,
             panel,
             name,
