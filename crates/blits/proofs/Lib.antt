@@ -1,4 +1,5 @@
 pub mod Visits
+pub mod Rounds
 pub mod Axes
 pub mod Drawn
 pub mod Bounds

@@ -51,6 +51,7 @@ fn reads_pixels(paint: Paint) -> bool
         Paint::Moved(_) => true,
         Paint::Stippled(_) => true,
         Paint::StippledWithin(_) => true,
+        Paint::Tiled(_) => false,
     }
 }
 

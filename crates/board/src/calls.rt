@@ -8,6 +8,7 @@ use commands::Engine;
 use geometry::Extent;
 use lists::Span;
 use slots::Active;
+use tiles::no_fill;
 use slots::Sizes;
 use slots::Slot;
 use slots::post_status;
@@ -27,6 +28,7 @@ impl Board {
             active: Active::on(free),
             pending: free,
             engine: Engine::fresh(),
+            fill: no_fill(),
         }
     }
 
@@ -71,6 +73,7 @@ impl Board {
         let a = self.active;
         let p = self.pending;
         let e = self.engine;
+        let f = self.fill;
         let list = Slot {
             taken: true,
             span: Span { start, count },
@@ -81,6 +84,7 @@ impl Board {
                 active: a,
                 pending: list,
                 engine: e,
+                fill: f,
             };
         }
         Board {
@@ -88,6 +92,7 @@ impl Board {
             active: Active::on(list),
             pending: p,
             engine: e,
+            fill: f,
         }
     }
 

@@ -6,6 +6,7 @@ use commands::Engine;
 use lists::Cursor;
 use lists::Span;
 use slots::Active;
+use tiles::Fill;
 use slots::Slot;
 
 impl Board {
@@ -18,6 +19,7 @@ impl Board {
         let c = a.cursor;
         let p = self.pending;
         let e = self.engine;
+        let f = self.fill;
         if !c.ended(e.under_way) {
             return self;
         }
@@ -29,11 +31,12 @@ impl Board {
                 span: Span { start: 0, count: 0 },
             },
             engine: e,
+            fill: f,
         }
     }
 
     // With the list and the engine that steps of the active list leave.
-    pub(crate) fn moved(self, cursor: Cursor, engine: Engine) -> Board
+    pub(crate) fn moved(self, cursor: Cursor, engine: Engine, fill: Fill) -> Board
         ensures { λ r. ⌜ r ≡ settledOf (withSteps self cursor engine) ⌝ }
     {
         let z = self.sizes;
@@ -47,6 +50,7 @@ impl Board {
             },
             pending: p,
             engine,
+            fill,
         };
         b.settled()
     }

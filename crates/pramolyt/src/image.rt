@@ -12,6 +12,11 @@ use registers::Registers;
 use slots::Active;
 use slots::Sizes;
 use slots::Slot;
+use tiles::Fill;
+use tiles::Row;
+use tiles::Tile;
+use tiles::no_fill;
+use tiles::pixel;
 
 // Where each part of the record begins, and how many words there are.
 const SIZES: usize = 0;
@@ -30,7 +35,11 @@ const PATTERN: usize = 25;
 
 const LAST: usize = 27;
 
-pub(crate) const WORDS: usize = 28;
+const WHOLE: usize = 28;
+
+const TILE: usize = 29;
+
+pub(crate) const WORDS: usize = 61;
 
 fn flag(b: bool) -> u32
     ensures { λ r. ⌜ r ≡ flagOf b ⌝ }
@@ -42,8 +51,76 @@ fn flag(b: bool) -> u32
 pub(crate) fn flags_ok(w: [u32; WORDS]) -> bool
     ensures { λ r. ⌜ r ≡ flagsOk w ⌝ }
 {
-    (w[ACTIVE] < 2) & (w[PENDING] < 2) & (w[COMMAND] < 2)
+    (w[ACTIVE] < 2) & (w[PENDING] < 2) & (w[COMMAND] < 2) & (w[WHOLE] < 2) & ((w[WHOLE] == 1) | blank(w))
 }
+
+fn blank(w: [u32; WORDS]) -> bool {
+    let mut sum: u32 = 0;
+    let mut i: usize = 0;
+    while i < 32 {
+        sum = sum | w[TILE + i];
+        i += 1;
+    }
+    sum == 0
+}
+
+fn part(x: u32, m: u32) -> u8
+{
+    ((x >> (8 * m)) % 256) as u8
+}
+
+fn word(a: u8, b: u8, c: u8, d: u8) -> u32
+{
+    a as u32 + 256 * (b as u32) + 65536 * (c as u32) + 16777216 * (d as u32)
+}
+
+fn row_in(w: [u32; WORDS], j: usize) -> Row
+{
+    let mut pixels: [u8; 16] = [0; 16];
+    let mut i: usize = 0;
+    while i < 16 {
+        pixels[i] = part(w[TILE + 4 * j + i / 4], (i % 4) as u32);
+        i += 1;
+    }
+    Row { pixels }
+}
+
+fn fill_in(w: [u32; WORDS]) -> Fill
+{
+    if w[WHOLE] == 0 {
+        return no_fill();
+    }
+    let blank = Row { pixels: [0; 16] };
+    let mut rows: [Row; 8] = [blank; 8];
+    let mut j: usize = 0;
+    while j < 8 {
+        rows[j] = row_in(w, j);
+        j += 1;
+    }
+    let tile = Tile { rows };
+    Fill { whole: true, tile }
+}
+
+fn put_fill(w: [u32; WORDS], f: Fill) -> [u32; WORDS]
+{
+    let mut v = w;
+    if !f.whole {
+        return v;
+    }
+    v[WHOLE] = 1;
+    let tile = f.tile;
+    let mut i: usize = 0;
+    while i < 32 {
+        let a = pixel(tile, 4 * i, i / 4);
+        let b = pixel(tile, 4 * i + 1, i / 4);
+        let c = pixel(tile, 4 * i + 2, i / 4);
+        let d = pixel(tile, 4 * i + 3, i / 4);
+        v[TILE + i] = word(a, b, c, d);
+        i += 1;
+    }
+    v
+}
+
 
 fn sizes_in(w: [u32; WORDS]) -> Sizes
     ensures { λ r. ⌜ r ≡ sizesIn w ⌝ }
@@ -133,6 +210,7 @@ pub(crate) fn decode(w: [u32; WORDS]) -> Board
         },
         pending: p,
         engine: e,
+        fill: fill_in(w),
     }
 }
 
@@ -205,5 +283,6 @@ pub(crate) fn encode(b: Board) -> [u32; WORDS]
     let active = put_slot(sized, ACTIVE, a.slot());
     let mut both = put_slot(active, PENDING, p);
     both[NEXT] = c.next;
-    put_command(put_registers(both, g), e)
+    let f = b.fill;
+    put_fill(put_command(put_registers(both, g), e), f)
 }

@@ -1,7 +1,8 @@
 -- Rows of pixels (01, Pixels): one visit after the other, each on the bytes as they stand at that visit.
+use mathlib.Core.Path.{_≡_}
 use mathlib.Core.Bool.{cond, _&&_}
 use mathlib.Core.List.{List}
-use Prim.Native.Nat.{ℕ, _+_, _-_}
+use Prim.Native.Nat.{ℕ, _+_, _-_, _%_, _<_}
 use lib.Dec.{eqb, leb}
 use lib.ListN.{length, getD}
 use Rattle.lemmas.specs.Sweeps.{sweep}
@@ -36,6 +37,18 @@ copiedBack f n l at source from =
 abbrev pub movedBack : (ℕ → ℕ → ℕ) → ℕ → List ℕ → ℕ → ℕ → List ℕ
 movedBack f n l at from = sweep (λ k. at - (k + 1)) (λ k m. f (getD m (from - (k + 1)) 0) (getD m (at - (k + 1)) 0)) n l
 
+-- The source is sixteen bytes of another buffer, again and again (02, R-7: "column x mod 16").
+abbrev pub tiled : (ℕ → ℕ → ℕ) → ℕ → List ℕ → ℕ → List ℕ → ℕ → List ℕ
+tiled f n l at source from = sweep (λ k. at + k) (λ k m. f (getD source (from + k % 16) 0) (getD m (at + k) 0)) n l
+
+-- The source is the first 32 bytes of another buffer, again and again.
+abbrev pub inBlocks : (ℕ → ℕ → ℕ) → ℕ → List ℕ → ℕ → List ℕ → List ℕ
+inBlocks f n l at wide = sweep (λ k. at + k) (λ k m. f (getD wide (k % 32) 0) (getD m (at + k) 0)) n l
+
+-- 48 bytes that are sixteen, three times over.
+abbrev pub Repeats : List ℕ → Type 0
+Repeats wide = (i : ℕ) → i < 48 → getD wide i 0 ≡ getD wide (i % 16) 0
+
 -- Rows that do not fit their buffers are not drawn.
 unfoldable pub filledRow : Pen → ℕ → List ℕ → ℕ → List ℕ
 filledRow p n l at = cond (leb (at + n) (length l)) (filled p n l at) l
@@ -50,3 +63,7 @@ movedRow m n l at from = cond (leb (at + n) (length l) && leb (from + n) (length
 unfoldable pub movedBackRow : Mix → ℕ → List ℕ → ℕ → ℕ → List ℕ
 movedBackRow m n l at from =
     cond (leb n at && leb n from && leb at (length l) && leb from (length l)) (movedBack (mixed m) n l at from) l
+
+unfoldable pub tiledRow : Mix → ℕ → List ℕ → ℕ → List ℕ → ℕ → List ℕ
+tiledRow m n l at source from =
+    cond (leb (at + n) (length l) && leb (from + 16) (length source)) (tiled (mixed m) n l at source from) l

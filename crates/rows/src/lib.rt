@@ -1,7 +1,9 @@
-// Rows of pixels at once: of one source byte, copied from another buffer, and copied within one buffer; byte by byte
-// (by_bytes.rt), in blocks (by_blocks.rt), or as bytes that nothing is mixed with (unmixed.rt).
+// Rows of pixels at once: of one source byte, copied from another buffer, copied within one buffer, and from sixteen bytes again
+// and again (tiled.rt); byte by byte (by_bytes.rt), in blocks (by_blocks.rt), or as bytes that nothing is mixed with
+// (unmixed.rt).
 mod by_blocks;
 mod by_bytes;
+mod tiled;
 mod unmixed;
 
 ghost use mathlib.Core.Path.{_≡_};
@@ -9,7 +11,7 @@ ghost use mathlib.Core.Bool.{true};
 ghost use Prim.Native.Nat.{ℕ, _+_, _<_, _≤_};
 ghost use lib.Dec.{leb};
 ghost use lib.ListN.{length};
-ghost use Rattle.rows.specs.Rows.{mixed, filled, copied, moved, movedBack, filledRow, copiedRow, movedRow, movedBackRow};
+ghost use Rattle.rows.specs.Rows.{mixed, filled, copied, moved, movedBack, filledRow, copiedRow, movedRow, movedBackRow, tiledRow};
 use crate::by_blocks::draw_long;
 use crate::by_blocks::draw_short;
 use crate::by_blocks::mix_long;
@@ -20,6 +22,8 @@ use crate::by_bytes::is_clear;
 use crate::by_bytes::mix_bytes;
 use crate::by_bytes::mix_within;
 use crate::by_bytes::mix_within_back;
+use crate::tiled::tile_long;
+use crate::tiled::tile_short;
 use crate::unmixed::copy_plain;
 use crate::unmixed::fill_plain;
 use crate::unmixed::move_plain;
@@ -174,4 +178,18 @@ pub fn move_row_back(buffer: &mut [u8], at: usize, from: usize, n: usize, mix: M
         return;
     }
     move_pixels_back(buffer, at, from, n, mix);
+}
+
+// n pixels from `at` on, from sixteen bytes of another buffer again and again: pixel k from byte from + k mod 16.
+pub fn tile_row(buffer: &mut [u8], at: usize, n: usize, source: &[u8], from: usize, mix: Mix)
+    ensures { λ _. ⌜ now (buffer .exit) ≡ tiledRow mix n (now (buffer .entry)) at (now (source .entry)) from ⌝ }
+{
+    if !(fits(buffer.len(), at, n) & fits(source.len(), from, 16)) {
+        return;
+    }
+    if n <= 16 {
+        tile_short(buffer, at, n, source, from, mix);
+        return;
+    }
+    tile_long(buffer, at, n, source, from, mix);
 }
