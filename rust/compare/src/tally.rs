@@ -77,8 +77,11 @@ pub struct Tally {
     fills: [u64; FILLS.len()],
     /// Runs whose last step triggered a tiled fill with nothing to show.
     tiled_nothing: u64,
-    /// Calls refused for their record's tile alone, and posts for APAT alone.
+    /// Calls with a tile in the record that they leave, which is not malformed.
+    tile_held: [u64; CALLS.len()],
+    /// Calls refused for their record's tile alone, by what is wrong with it and by kind; posts refused for APAT alone.
     spoiled: [u64; SPOILED.len()],
+    spoiled_calls: [u64; CALLS.len()],
     illegal: [u64; ILLEGAL.len()],
     /// Accepted feeds by the bytes held before and after.
     held: [[u64; 5]; 5],
@@ -114,10 +117,14 @@ impl Tally {
                 self.tiled_nothing += u64::from(is_tiled(record.state().command()));
             }
         }
+        if record.tile_whole == 1 && !record.malformed() {
+            self.tile_held[call.kind()] += 1;
+        }
         match report.number {
             1 => {
                 if let Some(kind) = tiles::spoiled_kind(record, &record.faults()) {
                     self.spoiled[kind] += 1;
+                    self.spoiled_calls[call.kind()] += 1;
                 }
             }
             6 => {
@@ -217,7 +224,9 @@ impl Compared for Tally {
         add(&mut self.visited, &other.visited);
         add(&mut self.fills, &other.fills);
         self.tiled_nothing += other.tiled_nothing;
+        add(&mut self.tile_held, &other.tile_held);
         add(&mut self.spoiled, &other.spoiled);
+        add(&mut self.spoiled_calls, &other.spoiled_calls);
         add(&mut self.illegal, &other.illegal);
         add(self.held.as_flattened_mut(), other.held.as_flattened());
         self.at_the_end += other.at_the_end;
@@ -278,6 +287,14 @@ impl Compared for Tally {
         checks.push((tiled_nothing, self.tiled_nothing > 0));
         for (name, &count) in SPOILED.iter().zip(&self.spoiled) {
             checks.push((format!("a record is refused, {name}"), count > 0));
+        }
+        for (call, name) in CALLS.iter().enumerate() {
+            if ALLOWED[call].contains(&1) {
+                let held = format!("{name} with a tile held");
+                checks.push((held, self.tile_held[call] > 0));
+                let spoiled = format!("{name} is refused for the record's tile");
+                checks.push((spoiled, self.spoiled_calls[call] > 0));
+            }
         }
         for (name, &count) in ILLEGAL.iter().zip(&self.illegal) {
             checks.push((format!("APAT with {name} is refused"), count > 0));
@@ -341,9 +358,14 @@ impl Compared for Tally {
             println!("  {name} {count}");
         }
         println!("tiled fills with nothing to show {}", self.tiled_nothing);
+        println!("  calls with a tile held {:?}", self.tile_held);
         for (name, count) in SPOILED.iter().zip(self.spoiled) {
             println!("  refused, {name} {count}");
         }
+        println!(
+            "  calls refused for the record's tile {:?}",
+            self.spoiled_calls
+        );
         for (name, count) in ILLEGAL.iter().zip(self.illegal) {
             println!("  refused, APAT with {name} {count}");
         }
