@@ -97,12 +97,14 @@ fn call(random: &mut Random, board: &mut Sequence, line: &mut Feed) -> bool {
             )
         }
         7 => {
-            let mut output = vec![0; random.below(60) as usize];
+            let mut output = vec![0; board.display.len() + random.below(28) as usize];
             board.export(random.below(3), &mut output)
         }
         8 => {
-            let pixels: Vec<u8> = (0..32).map(|_| random.word() as u8).collect();
-            let picture = picture(random.pick(&[8, 8, 8, 4]), 4, &pixels);
+            let Record { width, height, .. } = board.record;
+            let area = width * height;
+            let pixels: Vec<u8> = (0..area).map(|_| random.word() as u8).collect();
+            let picture = picture(random.pick(&[width, width, width, 4]), height, &pixels);
             board.import(random.below(3), &picture)
         }
         _ => {

@@ -2,7 +2,9 @@
 
 use crate::common::*;
 use reference::record::word_name;
-use reference::{make, post, run, store, window_write, Record, NAMES, WORDS};
+use reference::{
+    export, feed, import, make, post, run, store, window_write, Feed, Record, NAMES, WORDS,
+};
 
 type Base = fn() -> Record;
 type Change = fn(&mut Record);
@@ -82,11 +84,14 @@ fn faults(mut record: Record, change: Change) -> Vec<&'static str> {
         let answers = [
             post(&mut record, &a, 0, 0),
             store(&mut record, &mut a, 99, &[1]),
+            feed(&mut record, &mut Feed::start(0), &mut a, &[]),
             window_write(&mut record, 9, 99, &[1], &mut b),
+            export(&mut record, 9, &b, &mut c),
+            import(&mut record, 9, b"P5", &mut b),
             run(&mut record, 9, &a, &mut b, &mut c),
         ];
         if !faults.is_empty() {
-            assert_eq!(answers, [plain(1); 4]);
+            assert_eq!(answers, [plain(1); 7]);
             assert_eq!(record, before);
         } else {
             assert!(answers.iter().all(|report| report.number != 1));

@@ -2,6 +2,7 @@
 
 use crate::common::*;
 use reference::drawing::raster;
+use reference::pictures::picture;
 use reference::{run, Sequence};
 
 const TILED: u32 = COPY | APAT;
@@ -163,7 +164,7 @@ fn columns_and_rows() {
     }
 }
 
-/// "Raster code, mask, clip, directions" are those of other blits.
+/// Raster code, mask and buffers are those of other blits.
 #[test]
 fn codes_masks_and_buffers() {
     for code in 0..16 {
@@ -179,7 +180,7 @@ fn codes_masks_and_buffers() {
     }
 }
 
-/// The tile's corner is its upper left one "whatever XY3"; corners of the fill on the board,
+/// The tile's "upper left corner is XY0", whatever XY3; corners of the fill on the board,
 /// beside it and far off, with and without a clip.
 #[test]
 fn directions_places_and_clips() {
@@ -434,4 +435,37 @@ fn illegal_styles_are_refused() {
         assert_eq!((refused.number, refused.place), (6, 4), "{command:#x}");
         assert_eq!(board.run(9), steps(0));
     }
+}
+
+/// A quay plan that is imported (document 02, R-9) is a source of tiles. While the fill is
+/// under way an export is done, with the buffer as it stands, and an import is 7; both
+/// leave the tile.
+#[test]
+fn tiles_and_pictures() {
+    let plan: Vec<u8> = (0..WIDTH * HEIGHT).map(|k| (k % 251) as u8).collect();
+    let plan = picture(WIDTH as u32, HEIGHT as u32, &plan);
+    let mut board = painted();
+    assert_eq!(board.import(1, &plan), plain(0));
+    let (after, visits) = expected(&board, &FILL_ALL);
+    board.store(0, &entries(&list(&FILL_ALL)));
+    board.post(0, ENTRIES);
+    board.run(ENTRIES + 50);
+    let record = board.record;
+    assert_eq!((record.tile_whole, record.visited), (1, 50));
+    for number in 0..2 {
+        let mut output = vec![0; plan.len()];
+        assert_eq!(board.export(number, &mut output).number, 0);
+        let buffer = if number == 0 {
+            &board.display
+        } else {
+            &board.virt
+        };
+        assert!(output.ends_with(buffer));
+        assert_eq!(board.import(number, &plan), plain(7));
+        assert_eq!(board.record, record);
+    }
+    assert_eq!(board.run(visits), steps(visits - 50));
+    assert_eq!([&board.display, &board.virt], after.each_ref());
+    assert_eq!(board.import(0, &plan), plain(0));
+    assert_eq!(board.fault(), None);
 }
