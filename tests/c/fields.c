@@ -17,7 +17,7 @@ typedef struct member {
 static const member flags[] = {MEMBER(active_taken), MEMBER(pending_taken), MEMBER(under_way), MEMBER(tile_whole)};
 enum { FLAGS = sizeof flags / sizeof flags[0] };
 
-static uint8_t list[5 * ENTRIES], display[AREA], virt[AREA];
+static uint8_t list[5 * ENTRIES], display[AREA], virt[AREA], output[PRAMOLYT_PICTURE_MAX(WIDTH, HEIGHT)];
 static unsigned passed, failed;
 
 static void check(int fact, const char *call, const char *about)
@@ -61,6 +61,16 @@ static void entry(size_t k, unsigned number, uint32_t word)
 static uint32_t run(pramolyt_board *b, uint64_t *steps, uint64_t budget)
 {
     return pramolyt_run(b, steps, budget, list, sizeof list, display, sizeof display, virt, sizeof virt);
+}
+
+static uint32_t exporting(pramolyt_board *b, uint64_t *written, size_t number)
+{
+    return pramolyt_export(b, written, number, number == 0 ? display : virt, AREA, output, sizeof output);
+}
+
+static uint32_t importing(pramolyt_board *b, size_t number, const uint8_t *picture, size_t length)
+{
+    return pramolyt_import(b, number, picture, length, number == 0 ? display : virt, AREA);
 }
 
 /* what each register holds in the record that `busy` makes, by register number */
@@ -141,7 +151,7 @@ static void malformed(const pramolyt_board *given, const char *about)
     static const uint8_t bytes[5] = {8, 0, 0, 0, 1};
     static uint8_t before[3][AREA];
     pramolyt_board b = *given;
-    uint64_t place = 77, steps = 77;
+    uint64_t place = 77, steps = 77, written = 77;
     memcpy(before[0], list, sizeof list);
     memcpy(before[1], display, sizeof display);
     memcpy(before[2], virt, sizeof virt);
@@ -152,6 +162,10 @@ static void malformed(const pramolyt_board *given, const char *about)
     check(pramolyt_window_write(&b, 0, 0, bytes, 5, display, sizeof display) == PRAMOLYT_MALFORMED,
           "window write answers 1", about);
     check(same(&b, given), "window write leaves the record", about);
+    check(exporting(&b, &written, 0) == PRAMOLYT_MALFORMED, "export answers 1", about);
+    check(same(&b, given) && written == 0, "export leaves the record", about);
+    check(importing(&b, 1, bytes, 5) == PRAMOLYT_MALFORMED, "import answers 1", about);
+    check(same(&b, given), "import leaves the record", about);
     check(run(&b, &steps, 1000) == PRAMOLYT_MALFORMED, "run answers 1", about);
     check(same(&b, given) && steps == 0, "run leaves the record", about);
     check(memcmp(before[0], list, sizeof list) == 0 && memcmp(before[1], display, sizeof display) == 0
@@ -318,6 +332,26 @@ static void tiles(void)
     check(run(&b, &steps, 0) == PRAMOLYT_DONE, "run of no steps", "a whole tile of zeros");
 }
 
+/* the calls that are no run leave a fill's tile in the record */
+static void tile_stays(void)
+{
+    static const uint8_t bytes[5] = {8, 0, 0, 0, 1};
+    const pramolyt_board good = tiling(3);
+    pramolyt_board b = good;
+    pramolyt_feed_record feed;
+    uint64_t place = 77, written = 77;
+    pramolyt_feed_start(&feed, 20);
+    check(pramolyt_store(&b, list, sizeof list, 9, bytes, 5) == PRAMOLYT_DONE && same(&b, &good), "store", "tile");
+    check(pramolyt_feed(&b, &feed, list, sizeof list, bytes, 5) == PRAMOLYT_DONE && same(&b, &good), "feed", "tile");
+    check(pramolyt_window_write(&b, 1, 0, bytes, 5, virt, sizeof virt) == PRAMOLYT_BUSY && same(&b, &good), "window write",
+          "tile");
+    check(exporting(&b, &written, 1) == PRAMOLYT_DONE && same(&b, &good), "export", "tile");
+    check(memcmp(output + written - AREA, virt, AREA) == 0, "export", "the buffer as lent");
+    check(importing(&b, 0, output, (size_t)written) == PRAMOLYT_BUSY && same(&b, &good), "import", "tile");
+    check(pramolyt_post(&b, &place, list, sizeof list, 9, 1) == PRAMOLYT_DONE && b.pending_taken == 1, "post", "pending list");
+    check(b.tile_whole == 1 && memcmp(b.tile, good.tile, sizeof b.tile) == 0, "post", "tile");
+}
+
 /* a tile that is not as the fill has it */
 static void bad_tiles(void)
 {
@@ -378,6 +412,7 @@ int main(void)
     arrives();
     draws();
     tiles();
+    tile_stays();
     bad_tiles();
     edges();
     printf("%u passed, %u failed\n", passed, failed);
