@@ -109,7 +109,7 @@ impl State {
     fn visit(&mut self, buffers: &mut Buffers) {
         self.draw(self.visited, buffers);
         self.visited += 1;
-        if u64::from(self.visited) == self.pixel_count() {
+        if u64::from(self.visited) >= self.pixel_count() {
             self.finish_command();
         }
     }
