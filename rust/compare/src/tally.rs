@@ -111,11 +111,11 @@ impl Tally {
             for kind in visits::visited_kinds(record, &record.faults()) {
                 self.visited[kind] += 1;
             }
-        } else if report.steps > 0 {
-            if let Some(why) = visits::nothing_to_show(record, &memories.list) {
-                self.nothing[why] += 1;
-                self.tiled_nothing += u64::from(is_tiled(record.state().command()));
-            }
+        } else if report.steps > 0
+            && let Some(why) = visits::nothing_to_show(record, &memories.list)
+        {
+            self.nothing[why] += 1;
+            self.tiled_nothing += u64::from(is_tiled(record.state().command()));
         }
         if record.tile_whole == 1 && !record.malformed() {
             self.tile_held[call.kind()] += 1;
