@@ -1,5 +1,4 @@
 pub mod Visits
-pub mod Rounds
 pub mod Axes
 pub mod Drawn
 pub mod Bounds

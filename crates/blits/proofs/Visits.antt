@@ -13,7 +13,7 @@ use Rattle.geometry.specs.Clip.{inBuffer, inWindow, placeIn}
 use Rattle.geometry.specs.Blit.{widthOf, bottomToTop, rightToLeft, away, blitPoint}
 use Rattle.geometry.specs.declared.Point.{Point}
 use Rattle.geometry.proofs.Windows.{Shown, shown-of, shown-by}
-use Rattle.blits.specs.Blits.{painted, reads, sourceWidth, targetAt, sourceAt, visibleAt, sourcePlace, visited}
+use Rattle.blits.specs.Blits.{painted, reads, sourceWidth, targetAt, sourceAt, visibleAt, visited}
 use Rattle.blits.specs.Ranges.{rangeOf}
 use Rattle.blits.specs.declared.Blit.{Blit}
 
@@ -44,10 +44,10 @@ not-then true h = absurd (h refl)
 not-then false h = refl
 
 -- visit j of row r, both counted from the corner
-pub at-column : (w r j : ℕ) → j < w → (w * r + j) % w ≡ j
+at-column : (w r j : ℕ) → j < w → (w * r + j) % w ≡ j
 at-column w r j h = mul-add-mod-self-left w r j ∙ mod-eq-of-lt h
 
-pub at-row : (w r j : ℕ) → j < w → (w * r + j) / w ≡ r
+at-row : (w r j : ℕ) → j < w → (w * r + j) / w ≡ r
 at-row w r j h =
     let none : j / w ≡ 0 = div-eq-of-lt h in
     mul-add-div {m = w} (omega arith) r j ∙ ap (λ x. r + x) none ∙ (let e : r + 0 ≡ r = omega arith in e)
@@ -79,14 +79,14 @@ visible-by b k s r =
 
 pub visit-drawn : (b : Blit) (other : List ℕ) (k : ℕ) (l : List ℕ) → visibleAt b k ≡ true →
     let at = placeIn (b .width) (targetAt b k) in
-    visited b other k l ≡ set l at (painted (b .paint) other l (sourcePlace b k) (getD l at 0))
+    visited b other k l ≡ set l at (painted (b .paint) other l (placeIn (sourceWidth b) (sourceAt b k)) (getD l at 0))
 unfolding visited
 visit-drawn b other k l h =
     let at = placeIn (b .width) (targetAt b k) in
-    ap (λ t. cond t (set l at (painted (b .paint) other l (sourcePlace b k) (getD l at 0))) l) h
+    ap (λ t. cond t (set l at (painted (b .paint) other l (placeIn (sourceWidth b) (sourceAt b k)) (getD l at 0))) l) h
 
 pub visit-hidden : (b : Blit) (other : List ℕ) (k : ℕ) (l : List ℕ) → (visibleAt b k ≡ true → ⊥) → visited b other k l ≡ l
 unfolding visited
 visit-hidden b other k l h =
     let at = placeIn (b .width) (targetAt b k) in
-    ap (λ t. cond t (set l at (painted (b .paint) other l (sourcePlace b k) (getD l at 0))) l) (not-then (visibleAt b k) h)
+    ap (λ t. cond t (set l at (painted (b .paint) other l (placeIn (sourceWidth b) (sourceAt b k)) (getD l at 0))) l) (not-then (visibleAt b k) h)

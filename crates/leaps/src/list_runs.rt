@@ -8,7 +8,6 @@ ghost use Rattle.commands.specs.Steps.{scene};
 ghost use Rattle.leaps.specs.ListRuns.{reached, GoesTo, runFrom, listRun, VisitsDone, EntriesTaken};
 use crate::visits::visit_counted;
 use commands::Engine;
-use entries::command_of;
 use entries::is_trigger;
 use geometry::Extent;
 use lists::Cursor;
@@ -17,8 +16,6 @@ use lists::next_of;
 use numbers::max;
 use numbers::min;
 use numbers::saturating_sub;
-use tiles::Fill;
-use tiles::no_fill;
 
 // The engine after a number of steps.
 pub struct Burst {
@@ -31,7 +28,6 @@ pub struct Burst {
 fn visit_up_to(
     e: Engine,
     extent: Extent,
-    fill: Fill,
     count: usize,
     budget: u64,
     display: &mut [u8],
@@ -43,7 +39,7 @@ fn visit_up_to(
     let left = max(1, saturating_sub(count, e.visited as usize));
     let n = min(budget as usize, left);
     Burst {
-        engine: visit_counted(e, extent, fill, count, n, display, virt),
+        engine: visit_counted(e, extent, count, n, display, virt),
         steps: n as u64,
     }
 }
@@ -122,7 +118,6 @@ fn take_entries(start: Engine, extent: Extent, cursor: Cursor, budget: u64, list
 // Steps of a list: the engine and the list after them.
 pub struct Progress {
     pub engine: Engine,
-    pub fill: Fill,
     pub cursor: Cursor,
     pub steps: u64,
 }
@@ -130,7 +125,6 @@ pub struct Progress {
 // The steps of a list whose end fits 32 bits: entries up to a command, and then its pixels.
 fn run_from(
     start: Engine,
-    held: Fill,
     extent: Extent,
     cursor: Cursor,
     budget: u64,
@@ -144,45 +138,24 @@ fn run_from(
     let mut e = start;
     let mut c = cursor;
     let mut k: u64 = 0;
-    let mut f = held;
-    let mut holds = true;
     while k < budget {
         let r = take_entries(e, extent, c, budget - k, list);
         e = r.engine;
         c = r.cursor;
         k = k + r.steps;
-        if 0 < r.steps {
-            let g = e.registers;
-            let x = command_of(g.cmd);
-            if e.under_way & x.apat {
-                f = e.fill_taken(extent, display, virt);
-                holds = true;
-            } else {
-                if holds {
-                    f = no_fill();
-                    holds = false;
-                }
-            }
-        }
         if (budget <= k) | !e.under_way {
             return Progress {
                 engine: e,
-                fill: f,
                 cursor: c,
                 steps: k,
             };
         }
-        let b = visit_up_to(e, extent, f, r.count, budget - k, display, virt);
+        let b = visit_up_to(e, extent, r.count, budget - k, display, virt);
         e = b.engine;
         k = k + b.steps;
-        if holds & !e.under_way {
-            f = no_fill();
-            holds = false;
-        }
     }
     Progress {
         engine: e,
-        fill: f,
         cursor: c,
         steps: k,
     }
@@ -191,7 +164,6 @@ fn run_from(
 // The same, and whether an illegal entry ended them within the budget.
 pub struct ListRun {
     pub engine: Engine,
-    pub fill: Fill,
     pub cursor: Cursor,
     pub steps: u64,
     pub broken: bool,
@@ -200,7 +172,6 @@ pub struct ListRun {
 // As many steps of a list as the budget allows, up to its end or its first illegal entry.
 pub fn run_list(
     start: Engine,
-    held: Fill,
     extent: Extent,
     cursor: Cursor,
     budget: u64,
@@ -214,20 +185,17 @@ pub fn run_list(
     if 4294967295 < s.end() {
         return ListRun {
             engine: start,
-            fill: held,
             cursor,
             steps: 0,
             broken: false,
         };
     }
-    let r = run_from(start, held, extent, cursor, budget, list, display, virt);
+    let r = run_from(start, extent, cursor, budget, list, display, virt);
     let e = r.engine;
-    let f = r.fill;
     let c = r.cursor;
     let ended = c.ended(e.under_way);
     ListRun {
         engine: e,
-        fill: f,
         cursor: c,
         steps: r.steps,
         broken: (r.steps < budget) & !ended,

@@ -28,8 +28,6 @@ use stipples::Stipple;
 use strokes::Dashes;
 use strokes::draw_dashes;
 use strokes::draw_line;
-use tiles::Fill;
-use tiles::doubled;
 
 fn mix(e: Engine) -> Mix
     ensures { λ r. ⌜ r ≡ mixIn e ⌝ }
@@ -72,9 +70,6 @@ fn paint(e: Engine) -> Paint
     let c = command_of(g.cmd);
     if c.solid {
         return Paint::Solid(pen(e, g.fore));
-    }
-    if c.apat {
-        return Paint::Tiled(mix(e));
     }
     let within = (c.to_virtual & c.from_virtual) | (!c.to_virtual & !c.from_virtual);
     if c.stpl {
@@ -165,7 +160,6 @@ fn stretch(e: Engine, window: Window, count: usize, n: usize) -> Range
 fn visit_rows(
     e: Engine,
     extent: Extent,
-    fill: Fill,
     count: usize,
     n: usize,
     display: &mut [u8],
@@ -181,18 +175,6 @@ fn visit_rows(
     let s = stretch(e, b.window, count, n);
     let first = s.from;
     let m = saturating_sub(s.past, s.from);
-    if c.apat & !c.solid {
-        if fill.whole {
-            let tile = fill.tile;
-            let wide = doubled(tile);
-            if c.to_virtual {
-                draw_blit(b, first, m, virt, &wide);
-            } else {
-                draw_blit(b, first, m, display, &wide);
-            }
-        }
-        return after;
-    }
     if c.to_virtual {
         draw_blit(b, first, m, virt, display);
     } else {
@@ -274,7 +256,6 @@ fn visit_stroke(
 fn visit_each(
     start: Engine,
     extent: Extent,
-    fill: Fill,
     n: usize,
     display: &mut [u8],
     virt: &mut [u8],
@@ -284,7 +265,7 @@ fn visit_each(
     let mut e = start;
     let mut k: usize = 0;
     while k < n {
-        e = e.visit(extent, fill, display, virt);
+        e = e.visit(extent, display, virt);
         k += 1;
     }
     e
@@ -294,7 +275,6 @@ fn visit_each(
 pub(crate) fn visit_counted(
     e: Engine,
     extent: Extent,
-    fill: Fill,
     count: usize,
     n: usize,
     display: &mut [u8],
@@ -308,11 +288,11 @@ pub(crate) fn visit_counted(
     let leaps = can_leap(e, extent, count, n, display.len(), virt.len());
     let blit = c.is_blit();
     if leaps & blit & (g.key < 256) {
-        return visit_rows(e, extent, fill, count, n, display, virt);
+        return visit_rows(e, extent, count, n, display, virt);
     }
     let line = c.is_line();
     if leaps & line & (1 < count) & (extent.height <= 65536) {
         return visit_stroke(e, extent, count, n, display, virt);
     }
-    visit_each(e, extent, fill, n, display, virt)
+    visit_each(e, extent, n, display, virt)
 }

@@ -5,4 +5,3 @@ pub mod Tests
 pub mod Mixing
 pub mod Plain
 pub mod Fitting
-pub mod Tiles

@@ -26,14 +26,14 @@ inside at n i yes-case no-case =
     (λ t. no-case (inl (leb-false _ _ t)))
 
 module _ (f : ℕ → ℕ → ℕ) (n : ℕ) (l : List ℕ) (at : ℕ) where
-  pub right-length : length (right f n l at) ≡ length l
+  right-length : length (right f n l at) ≡ length l
   right-length = sweep-length (λ k. at + k) (λ k m. f k (getD m (at + k) 0)) l n
 
-  pub right-out : (i : ℕ) → (i < at) ⊎ (at + n ≤ i) → getD (right f n l at) i 0 ≡ getD l i 0
+  right-out : (i : ℕ) → (i < at) ⊎ (at + n ≤ i) → getD (right f n l at) i 0 ≡ getD l i 0
   right-out i c =
       sweep-stays (λ k. at + k) (λ k m. f k (getD m (at + k) 0)) l n i (λ k p e. ⊎-elim (λ h. omega arith) (λ h. omega arith) c)
 
-  pub right-in : at + n ≤ length l → (i : ℕ) → at ≤ i → i < at + n → getD (right f n l at) i 0 ≡ f (i - at) (getD l i 0)
+  right-in : at + n ≤ length l → (i : ℕ) → at ≤ i → i < at + n → getD (right f n l at) i 0 ≡ f (i - at) (getD l i 0)
   right-in h i p q =
       let k = i - at in
       let e : at + k ≡ i = omega arith in
@@ -80,7 +80,7 @@ module _ (f h q : ℕ → ℕ → ℕ) (n p k z b : ℕ) (l m r : List ℕ) (at 
       ∙ sym (right-out f n l at i v)))
 
 -- what was drawn aside
-pub kept : (g : ℕ → ℕ → ℕ) (b : ℕ) (w t : List ℕ) → b ≤ length w → t ≡ right g b w 0 → (j : ℕ) → j < b → getD t (0 + j) 0 ≡ g j (getD w (0 + j) 0)
+kept : (g : ℕ → ℕ → ℕ) (b : ℕ) (w t : List ℕ) → b ≤ length w → t ≡ right g b w 0 → (j : ℕ) → j < b → getD t (0 + j) 0 ≡ g j (getD w (0 + j) 0)
 kept g b w t room et j v =
     let e : 0 + j - 0 ≡ j = omega arith in
     rw et (rw e at (right-in g b w 0 (omega arith) (0 + j) (omega arith) (omega arith)))
@@ -116,7 +116,7 @@ copied-twice n b l m w t r at source from fits small enough room em et er =
 -- k pixels of a row or more, and its last b aside
 module _ (n k z b : ℕ) (l m w s t r : List ℕ) (at : ℕ) (fits : at + n ≤ length l) (whole : z + b ≡ n) (enough : z ≤ k) (part : k ≤ n)
     (room : b ≤ length w) (es : s ≡ copied (λ s d. s) b w 0 l (at + z)) (er : r ≡ copied (λ s d. s) b m (at + z) t 0) where
-  pub last-aside : (f g h : ℕ → ℕ → ℕ) → ((j d : ℕ) → h j d ≡ f (0 + j) d) → ((j d : ℕ) → g j d ≡ f (z + j) d)
+  last-aside : (f g h : ℕ → ℕ → ℕ) → ((j d : ℕ) → h j d ≡ f (0 + j) d) → ((j d : ℕ) → g j d ≡ f (z + j) d)
       → m ≡ right h k l at → t ≡ right g b s 0 → r ≡ right f n l at
   last-aside f g h early late em et =
       parts f h (λ j d. getD t (0 + j) 0) n 0 k z b l m r at at (at + z) fits (omega arith) refl (omega arith) (omega arith)
