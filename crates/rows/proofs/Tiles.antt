@@ -17,7 +17,8 @@ Covers f = (s d e : ℕ) → f s d ≡ f s e
 
 -- the first b pixels of a row and its last b, from source bytes that were kept first
 module _ (f : ℕ → ℕ → ℕ) (b n : ℕ) (l : List ℕ) (at : ℕ) (source : List ℕ) (from : ℕ) (fits : at + n ≤ length l) (low : b ≤ n)
-    (high : n ≤ b + b) (x y head tail m r : List ℕ) (hx : b ≤ length x) (hy : b ≤ length y) (eh : head ≡ copied (λ s d. s) b x 0 source from)
+    (high : n ≤ b + b) (x y head tail m r : List ℕ) (hx : b ≤ length x) (hy : b ≤ length y)
+    (eh : head ≡ copied (λ s d. s) b x 0 source from)
     (et : tail ≡ copied (λ s d. s) b y 0 source (from + (n - b))) (em : m ≡ copied f b l at head 0) where
   pub covered-twice : Covers f → r ≡ copied f b m (at + (n - b)) tail 0 → r ≡ copied f n l at source from
   covered-twice alone er =
@@ -72,7 +73,8 @@ pub record Begun (f : ℕ → ℕ → ℕ) (n : ℕ) (l : List ℕ) (at : ℕ) (
   pub done : r ≡ again f k l at pixels
 
 pub begun-length : (f : ℕ → ℕ → ℕ) (n : ℕ) (l : List ℕ) (at : ℕ) (pixels r : List ℕ) → Begun f n l at pixels r → length r ≡ length l
-begun-length f n l at pixels r b = ap length (b .done) ∙ sweep-length (λ k. at + k) (λ k m. f (getD pixels (k % 16) 0) (getD m (at + k) 0)) l (b .k)
+begun-length f n l at pixels r b =
+    ap length (b .done) ∙ sweep-length (λ k. at + k) (λ k m. f (getD pixels (k % 16) 0) (getD m (at + k) 0)) l (b .k)
 
 module _ (f : ℕ → ℕ → ℕ) (n : ℕ) (l : List ℕ) (at : ℕ) (pixels m : List ℕ) (em : m ≡ again f (n / 32 * 32) l at pixels) where
   pub begun-blocks : n - 16 ≤ n / 32 * 32 → Begun f n l at pixels m

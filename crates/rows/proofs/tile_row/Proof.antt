@@ -17,7 +17,8 @@ returns : tie.Need-returns
 returns c pixel t =
     let a = c .before .before .before .before .args in
     tiled-out (a .selectors) (a .n) (a .buffer .now) (a .at) (λ k. pixel (a .x + k))
-    (unfit-long _ (a .at + a .n) (length (a .buffer .now)) (length (a .wide .now)) 256 (c .before .fits2 .ensures) (c .if1 .taken) (t .long))
+    (unfit-long _ (a .at + a .n) (length (a .buffer .now)) (length (a .wide .now)) 256 (c .before .fits2 .ensures) (c .if1 .taken)
+    (t .long))
 
 -- what the test said
 fitting : (c : tie.Else1) → let a = c .before .before .before .before .args in
@@ -54,7 +55,8 @@ returns-2 c pixel t =
     let a = o .before .before .before .before .args in
     let row : ℕ → ℕ = λ k. pixel (a .x + k) in
     c .before .before .cover-row .ensures row (from-column pixel (a .wide .now) (a .y) t (a .x) (a .n))
-    ∙ tiled-by (covered (a .selectors)) (mixed (unkeyed (a .selectors))) (q .before .covers .ensures (q .if2 .taken)) (a .n) (a .buffer .now) (a .at) row
+    ∙ tiled-by (covered (a .selectors)) (mixed (unkeyed (a .selectors))) (q .before .covers .ensures (q .if2 .taken))
+    (a .n) (a .buffer .now) (a .at) row
     ∙ tiled-row (a .selectors) (a .n) (a .buffer .now) (a .at) row (fitting o .0)
 
 mix-row-requires : tie.Need-mix-row-requires

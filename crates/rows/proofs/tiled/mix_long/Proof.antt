@@ -58,20 +58,27 @@ slice-aggregate-mix-bytes-3 c = search needs
 mix-bytes-requires-2 : tie.Need-mix-bytes-requires-2
 mix-bytes-requires-2 c κs = search needs
 
--- the row where the branches meet: all but the last sixteen pixels
+-- where the first sixteen bytes were kept, before the branches
+abbrev kept : tie.Joined1 → tie.After-copy-bytes
+kept c = c .before .before .before .before .before .before .before .before .before .before
+    .before .before .before .before .before .before .before
+
+abbrev start : tie.Joined1 → tie.Start
+start c = kept c .before .before .before .before
+
+-- where they meet all but the last sixteen pixels are drawn
 begun : (c : tie.Joined1) →
-    let p = c .before .before .before .before .before .before .before .before .before .before .before .before .before .before .before .before .before in
-    let a = p .before .before .before .before .args in
-    Begun (mixed (a .mix)) (a .n) (a .buffer .now) (a .at) (p .copy-bytes .last .0) (c .if1 .buffer)
+    let a = start c .args in
+    Begun (mixed (a .mix)) (a .n) (a .buffer .now) (a .at) (kept c .copy-bytes .last .0) (c .if1 .buffer)
 begun c =
     let m = c .before .before .before in
-    let a = c .before .before .before .before .before .before .before .before .before .before .before .before .before .before .before .before .before .before .before .before .before .args in
+    let a = start c .args in
     ⊎-elim
     (λ w. begun-more (mixed (a .mix)) (a .n) (a .buffer .now) (a .at) _ _ (m .mix-blocks .ensures) _ (w .0 .taken) (w .6 ∙ w .3 .ensures))
     (λ w. begun-blocks (mixed (a .mix)) (a .n) (a .buffer .now) (a .at) _ _ (w .1 ∙ m .mix-blocks .ensures) (w .0 .left))
     (c .if1 .came)
 
-as-long : (c : tie.Joined1) → length (c .if1 .buffer) ≡ length (c .before .before .before .before .before .before .before .before .before .before .before .before .before .before .before .before .before .before .before .before .before .args .buffer .now)
+as-long : (c : tie.Joined1) → length (c .if1 .buffer) ≡ length (start c .args .buffer .now)
 as-long c = begun-length _ _ _ _ _ _ (begun c)
 
 add-copy-bytes-2 : tie.Need-add-copy-bytes-2
@@ -93,11 +100,10 @@ returns c =
     let t = j .before .before .before .before .before .before in
     let k = t .before .before .before .before in
     let y = k .before .before .before .before in
-    let p = y .before .before .before in
-    let s = p .before .before .before .before in
+    let s = start j in
     let a = s .args in
     mixed-long (mixed (a .mix)) (a .n) (a .buffer .now) (a .at) (a .source .now) (a .from) (a .last) (s .pre .0) (s .pre .1)
-    _ _ _ _ _ _ (lit≤ tt) (lit≤ tt) (p .copy-bytes .ensures) (y .copy-bytes2 .ensures) (begun j)
+    _ _ _ _ _ _ (lit≤ tt) (lit≤ tt) (kept j .copy-bytes .ensures) (y .copy-bytes2 .ensures) (begun j)
     _ _ _ (lit≤ tt) (k .copy-bytes3 .ensures) (t .mix-bytes .ensures) (r .copy-bytes4 .ensures)
 
 pub mix-long-spec : {M : Type 1} → statement M
