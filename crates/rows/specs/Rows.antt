@@ -71,12 +71,12 @@ pub record Twice (pixel : ℕ → ℕ) (wide : List ℕ) (y : ℕ) : Type 0 wher
   pub again : (i : ℕ) → pixel (i + 16) ≡ pixel i
   pub there : (i : ℕ) → i < 32 → getD wide (32 * (y % 8) + i) 0 ≡ pixel i
 
--- How it is drawn: the new byte where the old one does not count.
+-- The new byte where the old one does not count.
 abbrev pub covered : Selectors → ℕ → ℕ → ℕ
 covered q s d = bitXor (bitAnd s (q .source)) (q .none)
 
--- A row of n pixels that go round every sixteen: the first sixteen are at `from`, and the last sixteen, or as many before the row's
--- end, are at `last`.
+-- A row of n pixels that go round every sixteen: the sixteen that begin with its first pixel are at `from`, and the sixteen that end
+-- with its last one are at `last`.
 pub record Periodic (pixel : ℕ → ℕ) (n : ℕ) (source : List ℕ) (from last : ℕ) : Type 0 where
   pub period : (i : ℕ) → pixel (i + 16) ≡ pixel i
   pub first : (i : ℕ) → i < 16 → getD source (from + i) 0 ≡ pixel i

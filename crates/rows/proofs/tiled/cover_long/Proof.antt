@@ -47,7 +47,7 @@ kept c = c .before .before .before .before .before .before .before .before .befo
 abbrev start : tie.Joined1 → tie.Start
 start c = kept c .before .before .before .before
 
--- where they meet all but the last sixteen pixels are drawn
+-- where they meet, all pixels but the last sixteen at most are drawn
 begun : (c : tie.Joined1) →
     let a = start c .args in
     Begun (covered (a .q)) (a .n) (a .buffer .now) (a .at) (kept c .copy-bytes .last .0) (c .if1 .buffer)
