@@ -3,6 +3,7 @@ use mathlib.Core.Path.{_≡_}
 use mathlib.Core.Bool.{false, cond, _&&_}
 use mathlib.Core.List.{List}
 use Prim.Native.Nat.{ℕ, _+_, _-_, _*_, _%_, _<_}
+use lib.Bits.{bitAnd, bitXor}
 use lib.Dec.{eqb, leb}
 use lib.ListN.{length, getD}
 use Rattle.lemmas.specs.Sweeps.{sweep}
@@ -69,3 +70,14 @@ pub record Twice (pixel : ℕ → ℕ) (wide : List ℕ) (y : ℕ) : Type 0 wher
   pub long : length wide ≡ 256
   pub again : (i : ℕ) → pixel (i + 16) ≡ pixel i
   pub there : (i : ℕ) → i < 32 → getD wide (32 * (y % 8) + i) 0 ≡ pixel i
+
+-- The new byte where the old one does not count.
+abbrev pub covered : Selectors → ℕ → ℕ → ℕ
+covered q s d = bitXor (bitAnd s (q .source)) (q .none)
+
+-- A row of n pixels that go round every sixteen: the sixteen that begin with its first pixel are at `from`, and the sixteen that end
+-- with its last one are at `last`.
+pub record Periodic (pixel : ℕ → ℕ) (n : ℕ) (source : List ℕ) (from last : ℕ) : Type 0 where
+  pub period : (i : ℕ) → pixel (i + 16) ≡ pixel i
+  pub first : (i : ℕ) → i < 16 → getD source (from + i) 0 ≡ pixel i
+  pub final : (i : ℕ) → i < 16 → getD source (last + i) 0 ≡ pixel (n + i)

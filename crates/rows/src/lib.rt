@@ -8,10 +8,10 @@ mod unmixed;
 ghost use mathlib.Core.Path.{_≡_};
 ghost use mathlib.Core.Bool.{true};
 ghost use Prim.Native.Nat.{ℕ, _+_, _<_, _≤_};
-ghost use lib.Bits.{bitAnd, bitXor};
 ghost use lib.Dec.{leb};
 ghost use lib.ListN.{length};
-ghost use Rattle.rows.specs.Rows.{mixed, filled, copied, moved, movedBack, filledRow, copiedRow, movedRow, movedBackRow, unkeyed, tiledRow, Twice};
+ghost use Rattle.rows.specs.Rows.{mixed, unkeyed, covered, filled, copied, moved, movedBack, Twice};
+ghost use Rattle.rows.specs.Rows.{filledRow, copiedRow, movedRow, movedBackRow, tiledRow};
 use crate::by_blocks::draw_long;
 use crate::by_blocks::draw_short;
 use crate::by_blocks::mix_long;
@@ -182,7 +182,7 @@ pub fn move_row_back(buffer: &mut [u8], at: usize, from: usize, n: usize, mix: M
 
 // True only where the old byte does not count.
 fn covers(q: Selectors) -> bool
-    ensures { λ r. ⌜ (r ≡ true → (s d : ℕ) → bitXor (bitAnd s (q .source)) (q .none) ≡ mixed (unkeyed q) s d) ⌝ }
+    ensures { λ r. ⌜ (r ≡ true → (s d : ℕ) → covered q s d ≡ mixed (unkeyed q) s d) ⌝ }
 {
     (q.both == 0) & (q.old == 0)
 }

@@ -1,16 +1,19 @@
 // Rows of a tile, sixteen pixels again and again. The lengths 8 and 16 are written out: as arguments they would make loops of what is
 // one operation. The source bytes are kept first: a store in between could be one of theirs, as far as the compiler sees.
 ghost use mathlib.Core.Path.{_≡_};
-ghost use Prim.Native.Nat.{_+_, _≤_};
-ghost use lib.ListN.{length};
-ghost use Rattle.rows.specs.Rows.{mixed, unkeyed, copied};
+ghost use Prim.Native.Nat.{ℕ, _+_, _%_, _<_, _≤_};
+ghost use lib.ListN.{length, getD};
+ghost use Rattle.rows.specs.Rows.{mixed, copied, tiled, covered, Periodic};
 use crate::Mix;
 use crate::by_bytes::copy_bytes;
 use crate::by_bytes::mix_bytes;
 use raster::Selectors;
 
 // The source bytes drawn where the old ones do not count.
-fn cover_bytes(buffer: &mut [u8], at: usize, source: &[u8], from: usize, n: usize, q: Selectors) {
+fn cover_bytes(buffer: &mut [u8], at: usize, source: &[u8], from: usize, n: usize, q: Selectors)
+    requires { ⌜ (at + n ≤ length (now buffer)) × (from + n ≤ length (now source)) ⌝ }
+    ensures { λ _. ⌜ now (buffer .exit) ≡ copied (covered q) n (now (buffer .entry)) at (now (source .entry)) from ⌝ }
+{
     let mut k: usize = 0;
     while k < n {
         buffer[at + k] = (source[from + k] & q.source) ^ q.none;
@@ -19,7 +22,10 @@ fn cover_bytes(buffer: &mut [u8], at: usize, source: &[u8], from: usize, n: usiz
 }
 
 // 8 to 16 pixels: the first 8, and the last 8.
-fn cover_short(buffer: &mut [u8], at: usize, source: &[u8], from: usize, n: usize, q: Selectors) {
+fn cover_short(buffer: &mut [u8], at: usize, source: &[u8], from: usize, n: usize, q: Selectors)
+    requires { ⌜ (8 ≤ n) × (n ≤ 16) × (at + n ≤ length (now buffer)) × (from + n ≤ length (now source)) ⌝ }
+    ensures { λ _. ⌜ now (buffer .exit) ≡ copied (covered q) n (now (buffer .entry)) at (now (source .entry)) from ⌝ }
+{
     let z = n - 8;
     let mut head: [u8; 8] = [0; 8];
     let mut tail: [u8; 8] = [0; 8];
@@ -30,7 +36,10 @@ fn cover_short(buffer: &mut [u8], at: usize, source: &[u8], from: usize, n: usiz
 }
 
 // The same where the old ones count: the last 8 are drawn aside before the first.
-fn mix_short(buffer: &mut [u8], at: usize, source: &[u8], from: usize, n: usize, mix: Mix) {
+fn mix_short(buffer: &mut [u8], at: usize, source: &[u8], from: usize, n: usize, mix: Mix)
+    requires { ⌜ (8 ≤ n) × (n ≤ 16) × (at + n ≤ length (now buffer)) × (from + n ≤ length (now source)) ⌝ }
+    ensures { λ _. ⌜ now (buffer .exit) ≡ copied (mixed mix) n (now (buffer .entry)) at (now (source .entry)) from ⌝ }
+{
     let z = n - 8;
     let mut head: [u8; 8] = [0; 8];
     let mut tail: [u8; 8] = [0; 8];
@@ -44,7 +53,10 @@ fn mix_short(buffer: &mut [u8], at: usize, source: &[u8], from: usize, n: usize,
 }
 
 // Blocks of 32 pixels, n of them in all, each sixteen bytes twice.
-fn cover_blocks(buffer: &mut [u8], at: usize, n: usize, pixels: [u8; 16], q: Selectors) {
+fn cover_blocks(buffer: &mut [u8], at: usize, n: usize, pixels: [u8; 16], q: Selectors)
+    requires { ⌜ (n % 32 ≡ 0) × (at + n ≤ length (now buffer)) ⌝ }
+    ensures { λ _. ⌜ now (buffer .exit) ≡ tiled (covered q) n (now (buffer .entry)) at (λ k. getD pixels (k % 16) 0) ⌝ }
+{
     let mut k: usize = 0;
     while k < n {
         cover_bytes(buffer, at + k, &pixels, 0, 16, q);
@@ -53,7 +65,10 @@ fn cover_blocks(buffer: &mut [u8], at: usize, n: usize, pixels: [u8; 16], q: Sel
     }
 }
 
-fn mix_blocks(buffer: &mut [u8], at: usize, n: usize, pixels: [u8; 16], mix: Mix) {
+fn mix_blocks(buffer: &mut [u8], at: usize, n: usize, pixels: [u8; 16], mix: Mix)
+    requires { ⌜ (n % 32 ≡ 0) × (at + n ≤ length (now buffer)) ⌝ }
+    ensures { λ _. ⌜ now (buffer .exit) ≡ tiled (mixed mix) n (now (buffer .entry)) at (λ k. getD pixels (k % 16) 0) ⌝ }
+{
     let mut k: usize = 0;
     while k < n {
         mix_bytes(buffer, at + k, &pixels, 0, 16, mix);
@@ -71,7 +86,10 @@ fn cover_long(
     from: usize,
     last: usize,
     q: Selectors,
-) {
+)
+    requires { ⌜ (16 < n) × (at + n ≤ length (now buffer)) × (from + 16 ≤ length (now source)) × (last + 16 ≤ length (now source)) ⌝ }
+    ensures { λ _. ⌜ ((pixel : ℕ → ℕ) → Periodic pixel n (now (source .entry)) from last → now (buffer .exit) ≡ tiled (covered q) n (now (buffer .entry)) at pixel) ⌝ }
+{
     let z = n - 16;
     let done = n / 32 * 32;
     let mut pixels: [u8; 16] = [0; 16];
@@ -94,7 +112,10 @@ fn mix_long(
     from: usize,
     last: usize,
     mix: Mix,
-) {
+)
+    requires { ⌜ (16 < n) × (at + n ≤ length (now buffer)) × (from + 16 ≤ length (now source)) × (last + 16 ≤ length (now source)) ⌝ }
+    ensures { λ _. ⌜ ((pixel : ℕ → ℕ) → Periodic pixel n (now (source .entry)) from last → now (buffer .exit) ≡ tiled (mixed mix) n (now (buffer .entry)) at pixel) ⌝ }
+{
     let z = n - 16;
     let done = n / 32 * 32;
     let mut pixels: [u8; 16] = [0; 16];
@@ -120,7 +141,10 @@ pub(crate) fn cover_row(
     from: usize,
     last: usize,
     q: Selectors,
-) {
+)
+    requires { ⌜ (at + n ≤ length (now buffer)) × (from + 16 ≤ length (now source)) × (last + 16 ≤ length (now source)) ⌝ }
+    ensures { λ _. ⌜ ((pixel : ℕ → ℕ) → Periodic pixel n (now (source .entry)) from last → now (buffer .exit) ≡ tiled (covered q) n (now (buffer .entry)) at pixel) ⌝ }
+{
     if n < 8 {
         cover_bytes(buffer, at, source, from, n, q);
         return;
@@ -140,7 +164,10 @@ pub(crate) fn mix_row(
     from: usize,
     last: usize,
     mix: Mix,
-) {
+)
+    requires { ⌜ (at + n ≤ length (now buffer)) × (from + 16 ≤ length (now source)) × (last + 16 ≤ length (now source)) ⌝ }
+    ensures { λ _. ⌜ ((pixel : ℕ → ℕ) → Periodic pixel n (now (source .entry)) from last → now (buffer .exit) ≡ tiled (mixed mix) n (now (buffer .entry)) at pixel) ⌝ }
+{
     if n < 8 {
         mix_bytes(buffer, at, source, from, n, mix);
         return;
