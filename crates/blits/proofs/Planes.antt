@@ -1,13 +1,13 @@
 -- Blits from a tile: the buffer that it covers, its rows and boxes, and the tests before them.
 -- Assumes nothing.
 use mathlib.Core.Path.{_≡_, refl, ap, ap₂, sym, subst, _∙_}
-use mathlib.Core.Bool.{Bool, true, false, not, _&&_}
+use mathlib.Core.Bool.{Bool, true, false}
 use mathlib.Core.List.{List}
 use Prim.Native.Nat.{ℕ, _+_, _-_, _*_, _/_, _%_, _≤_, _<_, min, max}
 use native.Mathlib.Nat.{mul-comm, add-assoc}
 use native.Mathlib.Omega.{arith}
 use borrow.Author.Tests.{le-leb, ltb-true, ltb-false, eq-eqb}
-use lib.Dec.{eqb, leb, ltb}
+use lib.Dec.{eqb, ltb}
 use lib.ListN.{length, getD}
 use Rattle.lemmas.proofs.Booleans.{by-cases}
 use Rattle.lemmas.proofs.Numbers.{map-below-length, map-below-at}
@@ -19,16 +19,16 @@ use Rattle.geometry.specs.Coordinates.{origin, pointOf}
 use Rattle.geometry.specs.Blit.{widthOf, heightOf, blitCount, bottomToTop, rightToLeft, away}
 use Rattle.geometry.specs.declared.Point.{Point}
 use Rattle.geometry.proofs.Clips.{area}
-use Rattle.rows.specs.Rows.{mixed, unkeyed, tiled, tiledRow, Twice}
+use Rattle.rows.specs.Rows.{mixed, unkeyed, tiledRow, Twice}
 use Rattle.rows.proofs.Fitting.{copied-row}
 use Rattle.tiles.specs.Tiles.{noRow, pixelOf, doubledOf}
 use Rattle.tiles.specs.declared.Tile.{Tile}
 use Rattle.tiles.proofs.Doubling.{rows-twice}
-use Rattle.blits.specs.Blits.{reads, visited, windowInside, blitFits, Fitting, RowFits, WholeRows}
+use Rattle.blits.specs.Blits.{visited, windowInside, blitFits, Fitting, RowFits, WholeRows}
 use Rattle.blits.specs.Ranges.{rangeOf, visibleRange, visibleColumns, visibleRows, visibleOf, partOf}
 use Rattle.blits.specs.Places.{leftEdge, placeAt}
 use Rattle.blits.specs.Rows.{rowOf, boxOf, RowsFit}
-use Rattle.blits.specs.Tiled.{planeOf, copyOf, Doubled, TileRows, BoxInside, TileBox}
+use Rattle.blits.specs.Tiled.{planeOf, copyOf, Doubled, TileRows, TileBox}
 use Rattle.blits.specs.declared.Blit.{Blit}
 use Rattle.blits.specs.declared.Paint.the-variants.{Copied}
 use Rattle.blits.specs.declared.ranges.Range.{Range}
@@ -112,7 +112,8 @@ first-line false y = omega arith
 pub next-line : (up : Bool) (y k line line′ : ℕ) → line ≡ away up y k → line′ ≡ away up line 1 → line′ ≡ away up y (k + 1)
 next-line up y k line line′ e g = g ∙ ap (λ l. away up l 1) e ∙ on-from up y k (k + 1) 1 refl
 
-module _ {q : Selectors} {up : Bool} {width at x y n rows : ℕ} {wide l : List ℕ} (p : TileRows up width at x y n rows wide (length l)) (back : Bool) where
+module _ {q : Selectors} {up : Bool} {width at x y n rows : ℕ} {wide l : List ℕ} (p : TileRows up width at x y n rows wide (length l))
+    (back : Bool) where
   pub tile-start : Rowed (Copied (unkeyed q)) back up width width (p .plane) at at n rows l l at at 0
   tile-start =
       rowed-start (Copied (unkeyed q)) back up width width (p .plane) at at n rows l at (p .fit)
@@ -131,8 +132,8 @@ module _ {q : Selectors} {up : Bool} {width at x y n rows : ℕ} {wide l : List 
       (drew (λ i. pixelOf (p .tile) i line) (row-twice (p .tile) wide line (p .twice))))
 
 -- ---- boxes
-module _ {q : Selectors} {width to direction : ℕ} {across down : Range} {wide : List ℕ} {own : ℕ} (p : TileBox q width to direction across down wide own)
-    (some : across .from < across .past) (lines : down .from < down .past) where
+module _ {q : Selectors} {width to direction : ℕ} {across down : Range} {wide : List ℕ} {own : ℕ}
+    (p : TileBox q width to direction across down wide own) (some : across .from < across .past) (lines : down .from < down .past) where
   abbrev up : Bool
   up = bottomToTop direction
 
@@ -151,7 +152,8 @@ module _ {q : Selectors} {width to direction : ℕ} {across down : Range} {wide 
       let columns = p .inside .columns some lines in
       let row = p .inside .rows k h in
       ap (λ at. getD (planeOf width (p .height) (p .tile)) (at + i) 0)
-      (row-on to width direction (across .from) (across .past) (down .from) (down .past) (λ k h. omega (arith, p .fits .down-small)) (λ k h. p .inside .rows k h .0) k h)
+      (row-on to width direction (across .from) (across .past) (down .from) (down .past) (λ k h. omega (arith, p .fits .down-small))
+      (λ k h. p .inside .rows k h .0) k h)
       ∙ plane-pixel width (p .height) (p .tile) edge (line (down .from + k)) i (columns .0) (omega (arith, columns .1)) (row .0) (row .1)
       ∙ ap (pixelOf (p .tile) (edge + i)) (sym (on-from up (pointOf to .y) (down .from) (down .from + k) k refl))
 
@@ -195,8 +197,9 @@ module _ (t : Tiling) {wide : List ℕ} (d : Doubled wide) where
   abbrev pub plane : List ℕ
   plane = planeOf (t .width) (t .height) (d .tile)
 
-  abbrev pub row-tile : {row c m own : ℕ} (f : RowFits (copyOf t) row c m (length plane) own) {visible : Visible} (same : visible ≡ visibleOf (copyOf t))
-      {across down : Range} (of-columns : across ≡ partOf (visible .columns) c m) (of-rows : down ≡ partOf (visible .rows) row 1) → t .width < 4294967296
+  abbrev pub row-tile : {row c m own : ℕ} (f : RowFits (copyOf t) row c m (length plane) own)
+      {visible : Visible} (same : visible ≡ visibleOf (copyOf t)) {across down : Range}
+      (of-columns : across ≡ partOf (visible .columns) c m) (of-rows : down ≡ partOf (visible .rows) row 1) → t .width < 4294967296
       → TileBox (t .selectors) (t .width) (t .to) (t .direction) across down wide own
   row-tile f same of-columns of-rows small =
       record {
@@ -208,7 +211,8 @@ module _ (t : Tiling) {wide : List ℕ} (d : Doubled wide) where
       }
 
 -- ---- what is visible, and the tests
-shown-range : (back : Bool) (c lo hi size : ℕ) → origin ≤ lo → hi ≤ origin + size → rangeOf back c lo hi ≡ visibleRange true back c lo hi c size
+shown-range : (back : Bool) (c lo hi size : ℕ) → origin ≤ lo → hi ≤ origin + size
+    → rangeOf back c lo hi ≡ visibleRange true back c lo hi c size
 unfolding rangeOf visibleRange
 shown-range true c lo hi size h l =
     let p : c + 1 - hi ≡ max (c + 1 - hi) (c + 1 - (origin + size)) = omega arith in
@@ -226,12 +230,14 @@ module _ (t : Tiling) (h : windowInside (t .width) (t .height) (t .window) ≡ t
   shown-columns : rangeOf (rightToLeft (t .direction)) (pointOf (t .to) .x) (t .window .left) (t .window .right) ≡ visibleColumns (copyOf t)
   unfolding visibleColumns
   shown-columns =
-      shown-range (rightToLeft (t .direction)) (pointOf (t .to) .x) (t .window .left) (t .window .right) (t .width) (inside .left-in) (inside .right-in)
+      shown-range (rightToLeft (t .direction)) (pointOf (t .to) .x) (t .window .left) (t .window .right) (t .width) (inside .left-in)
+      (inside .right-in)
 
   shown-rows : rangeOf (bottomToTop (t .direction)) (pointOf (t .to) .y) (t .window .top) (t .window .bottom) ≡ visibleRows (copyOf t)
   unfolding visibleRows
   shown-rows =
-      shown-range (bottomToTop (t .direction)) (pointOf (t .to) .y) (t .window .top) (t .window .bottom) (t .height) (inside .top-in) (inside .bottom-in)
+      shown-range (bottomToTop (t .direction)) (pointOf (t .to) .y) (t .window .top) (t .window .bottom) (t .height) (inside .top-in)
+      (inside .bottom-in)
 
   pub shown-by : (c : Point) → c ≡ pointOf (t .to) → (columns rows : Range)
       → columns ≡ rangeOf (rightToLeft (t .direction)) (c .x) (t .window .left) (t .window .right)
@@ -247,7 +253,8 @@ module _ (t : Tiling) (tile : Tile) (first n own : ℕ) where
   pub plane-tests : blitFits (copyOf t) first n own own ≡ blitFits (copyOf t) first n (length (planeOf (t .width) (t .height) tile)) own
   plane-tests =
       let a = t .width * t .height in
-      let long : eqb (length (planeOf (t .width) (t .height) tile)) a ≡ true = eq-eqb (length (planeOf (t .width) (t .height) tile)) a (plane-long (t .width) (t .height) tile) in
+      let plane = planeOf (t .width) (t .height) tile in
+      let long : eqb (length plane) a ≡ true = eq-eqb (length plane) a (plane-long (t .width) (t .height) tile) in
       by-cases (eqb own a) (λ u. rw (u, long)) (λ u. rw u)
 
   pub tested : (b : Blit) → b ≡ copyOf t → (r : Bool) → r ≡ blitFits b first n own own
@@ -260,13 +267,15 @@ module _ (t : Tiling) (tile : Tile) (first n own : ℕ) where
 
 -- all visits of a blit, as one box
 module _ (t : Tiling) {wide : List ℕ} (d : Doubled wide) (first n own : ℕ) (f : Fitting (copyOf t) first n own own) (some : 0 < n)
-    (all : n ≡ blitCount (t .size)) (small : t .size < 4294967296) {visible : Visible} (same : visible ≡ visibleOf (copyOf t)) {across down : Range}
-    (of-columns : across ≡ partOf (visible .columns) 0 (widthOf (t .size))) (of-rows : down ≡ partOf (visible .rows) 0 (heightOf (t .size))) where
+    (all : n ≡ blitCount (t .size)) (small : t .size < 4294967296) {visible : Visible} (same : visible ≡ visibleOf (copyOf t))
+    {across down : Range} (of-columns : across ≡ partOf (visible .columns) 0 (widthOf (t .size)))
+    (of-rows : down ≡ partOf (visible .rows) 0 (heightOf (t .size))) where
   all-rows : WholeRows (t .size) first n (heightOf (t .size))
   all-rows = record { fit = omega (arith, all); start = λ _. omega (arith, all, f .visits) }
 
   pub all-fitting : Fitting (copyOf t) 0 (blitCount (t .size)) (length (plane t d)) own
-  all-fitting = whole-fits (copyOf t) first n (heightOf (t .size)) all-rows (length (plane t d)) own (plane-fitting t (d .tile) first n own f)
+  all-fitting =
+      whole-fits (copyOf t) first n (heightOf (t .size)) all-rows (length (plane t d)) own (plane-fitting t (d .tile) first n own f)
 
   pub all-columns : 0 < widthOf (t .size)
   all-columns = across-some (copyOf t) first n own own f some
@@ -281,7 +290,8 @@ module _ (t : Tiling) {wide : List ℕ} (d : Doubled wide) (first n own : ℕ) (
         inside = whole-box-inside (copyOf t) (plane t d) (heightOf (t .size)) own all-columns small all-fitting same of-columns of-rows refl;
       }
 
-  pub all-visits : (l k : List ℕ) → k ≡ boxOf (Copied (unkeyed (t .selectors))) (t .width) (t .to) (t .to) (t .direction) across down (plane t d) l
+  pub all-visits : (l k : List ℕ)
+      → k ≡ boxOf (Copied (unkeyed (t .selectors))) (t .width) (t .to) (t .to) (t .direction) across down (plane t d) l
       → k ≡ inTurn (λ i. visited (copyOf t) (plane t d) (first + i)) n l
   all-visits l k e =
       whole-first (copyOf t) first n (heightOf (t .size)) all-rows (plane t d) l k

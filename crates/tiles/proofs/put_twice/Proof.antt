@@ -1,6 +1,5 @@
 -- The loop keeps `Filled`: j rows are there twice. Each turn is one row more (`row-twice`). A memory of another size stays as it is.
 use native.Mathlib.Omega.{arith}
-use borrow.Author.Needs.{needs}
 use Prim.Native.Nat.{_-_, _*_}
 use Rattle.lemmas.proofs.Filling.{Filled, fill-start, fill-end}
 use Rattle.tiles.proofs.Doubling.{doubledAt, row-twice, twice-not, twice-all}

@@ -4,7 +4,7 @@ use borrow.Author.Needs.{needs}
 use Prim.Native.Nat.{_-_, _<_}
 use native.Mathlib.Omega.{arith}
 use Rattle.geometry.specs.Blit.{widthOf}
-use Rattle.blits.specs.Tiled.{copyOf, planeOf, Doubled}
+use Rattle.blits.specs.Tiled.{copyOf, Doubled}
 use Rattle.blits.proofs.Loops.{across-some, Visiting, visiting-start, visiting-far, visiting-row, visiting-more, visiting-turn, visiting-end}
 use Rattle.blits.proofs.RowBoxes.{row-box-visits}
 use Rattle.blits.proofs.Planes.{plane, plane-fitting, row-tile}
@@ -36,13 +36,16 @@ rem-column c = omega (arith, some-columns c)
 loop-holds : tie.Need-loop-holds Inv-loop μ-loop
 loop-holds c =
     let start = c .before .before .before in
-    λ d. visiting-start _ _ _ _ _ (start .pre .0) (omega (arith, c .struct-known .given)) (plane-fitting (start .args .t) (d .tile) _ _ _ (start .pre .1))
+    λ d.
+    visiting-start _ _ _ _ _ (start .pre .0) (omega (arith, c .struct-known .given))
+    (plane-fitting (start .args .t) (d .tile) _ _ _ (start .pre .1))
 
 -- what the loop keeps, of the tile that is there
 held : (c : tie.At-loop Inv-loop μ-loop) →
     let start = c .before .before .before .before in
     let s = start .args in
-    Visiting (copyOf (s .t)) (plane (s .t) (start .pre .3)) (s .first) (s .n) (s .buffer .now) (c .loop .buffer) (c .loop .row) (c .loop .column) (c .loop .k)
+    let o = c .loop in
+    Visiting (copyOf (s .t)) (plane (s .t) (start .pre .3)) (s .first) (s .n) (s .buffer .now) (o .buffer) (o .row) (o .column) (o .k)
 held c = c .loop .inv (c .before .before .before .before .pre .3)
 
 add-loop : tie.Need-add-loop Inv-loop μ-loop

@@ -24,7 +24,8 @@ returns : tie.Need-returns
 returns c =
     let fits = c .before in
     let s = fits .before .before .before .args in
-    blit-out _ _ _ _ _ (sym (tested (s .t) (s .tile) _ _ _ _ (fits .before .copy-of .ensures) _ (fits .blit-fits .ensures)) ∙ not-true _ (c .if1 .taken))
+    blit-out _ _ _ _ _
+    (sym (tested (s .t) (s .tile) _ _ _ _ (fits .before .copy-of .ensures) _ (fits .blit-fits .ensures)) ∙ not-true _ (c .if1 .taken))
 
 -- the tests that passed, and what they say
 fits : (c : tie.Else1) →
@@ -88,8 +89,8 @@ tile-box-requires c κs =
     let shown = counted .before in
     let put = shown .before .before in
     let start = put .before .before .before .before .before .before .before in
-    all-tile (start .args .t) (doubled put) _ _ _ (fitting (put .before .before .before)) (omega arith) (whole .if3 .taken ∙ counted .blit-count .ensures) (small start)
-    (shown .shown-of .ensures) (columns .part .ensures) (rows .part2 .ensures) (narrow start)
+    all-tile (start .args .t) (doubled put) _ _ _ (fitting (put .before .before .before)) (omega arith)
+    (whole .if3 .taken ∙ counted .blit-count .ensures) (small start) (shown .shown-of .ensures) (columns .part .ensures) (rows .part2 .ensures) (narrow start)
 
 same-length : tie.Need-same-length
 same-length c = search needs

@@ -53,7 +53,8 @@ tile-rows-requires c κs =
     let corner = left .before in
     let place = corner .before in
     let start = place .before .before .before .before .before in
-    box-rows (start .pre) (omega arith) (omega arith) _ (corner .point-of .ensures) _ _ _ (place .place-at .ensures) (left .left-edge .ensures) (line .along .ensures)
+    box-rows (start .pre) (omega arith) (omega arith) _ (corner .point-of .ensures) _ _ _ (place .place-at .ensures) (left .left-edge .ensures)
+    (line .along .ensures)
 
 same-length : tie.Need-same-length
 same-length c = search needs
@@ -67,10 +68,11 @@ returns-3 c =
     let place = corner .before in
     let s = place .before .before .before .before .before .args in
     λ p.
-    box-painted (Copied (unkeyed (s .selectors))) (s .width) (s .to) (s .to) (s .direction) (s .across) (s .down) (planeOf (s .width) (p .height) (p .tile)) _ _ _ _ _ refl
-    (place .place-at .ensures) (place .place-at .ensures)
+    box-painted (Copied (unkeyed (s .selectors))) (s .width) (s .to) (s .to) (s .direction) (s .across) (s .down)
+    (planeOf (s .width) (p .height) (p .tile)) _ _ _ _ _ refl (place .place-at .ensures) (place .place-at .ensures)
     (done .tile-rows .ensures (rightToLeft (s .direction))
-    (box-rows p (omega arith) (omega arith) _ (corner .point-of .ensures) _ _ _ (place .place-at .ensures) (left .left-edge .ensures) (line .along .ensures)))
+    (box-rows p (omega arith) (omega arith) _ (corner .point-of .ensures) _ _ _ (place .place-at .ensures) (left .left-edge .ensures)
+    (line .along .ensures)))
 
 pub tile-box-spec : {M : Type 1} → statement M
 tile-box-spec =

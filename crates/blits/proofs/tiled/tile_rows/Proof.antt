@@ -54,7 +54,9 @@ loop-again c =
     let inv = at .loop .inv in
     let s = at .before .before .before .args in (
       next-line (s .up) (s .y) (at .loop .k) _ _ (inv .0) (c .along2 .ensures),
-      λ back p. tile-turn p back (inv .1 back p) (omega arith) _ (inv .0) _ _ (done .tile-row .kept .0) (c .before .along .ensures) (done .tile-row .ensures),
+      λ back p.
+          tile-turn p back (inv .1 back p) (omega arith) _ (inv .0) _ _ (done .tile-row .kept .0) (c .before .along .ensures)
+          (done .tile-row .ensures),
     )
 
 same-length : tie.Need-same-length Inv-loop μ-loop
