@@ -1,7 +1,15 @@
 // Blits from a tile (document 02, R-7): copies from a buffer that the tile covers, each pixel from its own place.
 ghost use mathlib.Core.Path.{_≡_};
-ghost use Rattle.blits.specs.Blits.{blitted};
-ghost use Rattle.blits.specs.Tiled.{copyOf, planeOf};
+ghost use mathlib.Core.Bool.{Bool, true};
+ghost use Prim.Native.Nat.{_+_, _<_};
+ghost use lib.ListN.{length};
+ghost use Rattle.lemmas.specs.Turns.{inTurn};
+ghost use Rattle.rows.specs.Rows.{unkeyed};
+ghost use Rattle.blits.specs.declared.Paint.the-variants.{Copied};
+ghost use Rattle.blits.specs.Blits.{visited, windowInside, blitted, Fitting};
+ghost use Rattle.blits.specs.Ranges.{visibleOf};
+ghost use Rattle.blits.specs.Rows.{rowAt, boxOf};
+ghost use Rattle.blits.specs.Tiled.{copyOf, planeOf, Doubled, TileRows, TileBox};
 use crate::Blit;
 use crate::Paint;
 use crate::blit_fits;
@@ -37,15 +45,18 @@ pub struct Tiling {
 fn copy_of(t: Tiling) -> Blit
     ensures { λ r. ⌜ r ≡ copyOf t ⌝ }
 {
+    let selectors = t.selectors;
+    let window = t.window;
+    let mix = Mix {
+        selectors,
+        keyed: false,
+        key: 0,
+    };
     Blit {
-        paint: Paint::Copied(Mix {
-            selectors: t.selectors,
-            keyed: false,
-            key: 0,
-        }),
+        paint: Paint::Copied(mix),
         width: t.width,
         height: t.height,
-        window: t.window,
+        window,
         from: t.to,
         to: t.to,
         size: t.size,
@@ -65,7 +76,10 @@ fn tile_rows(
     n: usize,
     rows: usize,
     selectors: Selectors,
-) {
+)
+    requires { ⌜ TileRows up width at x y n rows (now wide) (length (now buffer)) ⌝ }
+    ensures { λ _. ⌜ ((back : Bool) (p : TileRows up width at x y n rows (now (wide .entry)) (length (now (buffer .entry)))) → now (buffer .exit) ≡ inTurn (rowAt (Copied (unkeyed selectors)) back up width width (p .plane) at at n) rows (now (buffer .entry))) ⌝ }
+{
     let mut to = at;
     let mut line = y;
     let mut k: usize = 0;
@@ -87,7 +101,10 @@ fn tile_box(
     down: Range,
     buffer: &mut [u8],
     wide: &[u8],
-) {
+)
+    requires { ⌜ TileBox selectors width to direction across down (now wide) (length (now buffer)) ⌝ }
+    ensures { λ _. ⌜ ((p : TileBox selectors width to direction across down (now (wide .entry)) (length (now (buffer .entry)))) → now (buffer .exit) ≡ boxOf (Copied (unkeyed selectors)) width to to direction across down (planeOf width (p .height) (p .tile)) (now (buffer .entry))) ⌝ }
+{
     let a = across.from;
     let z = across.past;
     let top = down.from;
@@ -116,8 +133,11 @@ fn tile_box(
     );
 }
 
-// The columns and rows in the window.
-fn shown_of(t: Tiling) -> Visible {
+// The visible columns and rows, by the window alone: a pixel of the window is in the buffer.
+fn shown_of(t: Tiling) -> Visible
+    requires { ⌜ windowInside (t .width) (t .height) (t .window) ≡ true ⌝ }
+    ensures { λ r. ⌜ r ≡ visibleOf (copyOf t) ⌝ }
+{
     let w = t.window;
     let target = point_of(t.to);
     Visible {
@@ -127,14 +147,10 @@ fn shown_of(t: Tiling) -> Visible {
 }
 
 // n visits from visit `first` on, row by row.
-fn draw_tile_rows(
-    t: Tiling,
-    shown: Visible,
-    first: usize,
-    n: usize,
-    buffer: &mut [u8],
-    wide: &[u8],
-) {
+fn draw_tile_rows(t: Tiling, shown: Visible, first: usize, n: usize, buffer: &mut [u8], wide: &[u8])
+    requires { ⌜ (0 < n) × Fitting (copyOf t) first n (length (now buffer)) (length (now buffer)) × (shown ≡ visibleOf (copyOf t)) × Doubled (now wide) ⌝ }
+    ensures { λ _. ⌜ ((d : Doubled (now (wide .entry))) → now (buffer .exit) ≡ inTurn (λ i. visited (copyOf t) (planeOf (t .width) (t .height) (d .tile)) (first + i)) n (now (buffer .entry))) ⌝ }
+{
     let across = (t.size / 65536) as usize;
     let mut row = first / across;
     let mut column = first % across;
