@@ -12,7 +12,7 @@ use Rattle.rows.proofs.Fitting.{fits-by, fits-not}
 use Rattle.geometry.specs.Coordinates.{pointOf}
 use Rattle.blits.specs.Blits.{sourcePixels}
 use Rattle.blits.specs.declared.Paint.{Paint}
-use Rattle.blits.specs.declared.Paint.the-variants.{Solid, Copied, Moved, Stippled, StippledWithin, Tiled}
+use Rattle.blits.specs.declared.Paint.the-variants.{Solid, Copied, Moved, Stippled, StippledWithin}
 
 pub product-small : (a b : ℕ) → a < 262144 → b < 2 ^ 35 → a * b < 2 ^ 53
 product-small a b h k =
@@ -45,7 +45,6 @@ source-small (Copied mix) width h = omega arith
 source-small (Moved mix) width h = omega arith
 source-small (Stippled s) width h = omega arith
 source-small (StippledWithin s) width h = omega arith
-source-small (Tiled mix) width h = omega arith
 
 -- so many rows from a place on
 pub rows-far : (width y e rows : ℕ) → width < 2 ^ 35 → y < 262144 → e < 262144 → rows ≤ 65536

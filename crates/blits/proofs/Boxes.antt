@@ -9,27 +9,26 @@ use native.Mathlib.Nat.{add-mul, mul-comm, mul-le-mul-left}
 use native.Mathlib.Omega.{arith}
 use borrow.Author.Tests.{leb-true, leb-false}
 use lib.Dec.{leb}
-use Rattle.lemmas.proofs.Booleans.{by-cases, first-of, second-of}
+use lib.ListN.{length}
+use Rattle.lemmas.proofs.Booleans.{by-cases}
 use Rattle.lemmas.specs.Turns.{inTurn}
 use Rattle.lemmas.proofs.Turns.{turn-none, turn-agree, turn-idle, turn-part}
 use Rattle.geometry.specs.Coordinates.{origin, pointOf}
 use Rattle.geometry.specs.Blit.{widthOf, bottomToTop, rightToLeft, away}
 use Rattle.lemmas.specs.Sweeps.{sweep}
-use Rattle.blits.specs.Blits.{reads, isTiled, hasPlace, sourcePixels, sourceWidth, visited, Lent, RowFits}
+use Rattle.blits.specs.Blits.{reads, sourcePixels, sourceWidth, visited, RowFits}
 use Rattle.blits.specs.Ranges.{visibleColumns, visibleRows, partOf}
-use Rattle.blits.specs.Places.{targetRow, sourceRow, leftEdge, placeAt, tileAt, startAt}
-use Rattle.blits.specs.Rows.{onward, rowOf, rowAt, boxOf, RowsFit, TileFits, BoxFits}
+use Rattle.blits.specs.Places.{targetRow, sourceRow, leftEdge, placeAt}
+use Rattle.blits.specs.Rows.{rowOf, rowAt, boxOf, RowsFit, BoxFits}
+use Rattle.blits.specs.Tiled.{BoxInside}
 use Rattle.blits.specs.declared.Blit.{Blit}
 use Rattle.blits.specs.declared.Paint.{Paint}
-use Rattle.blits.specs.declared.Paint.the-variants.{Solid, Copied, Moved, Stippled, StippledWithin, Tiled}
 use Rattle.blits.specs.declared.ranges.Range.{Range}
 use Rattle.blits.proofs.Bounds.{source-small, rows-far, x-below, y-below}
-use Rattle.blits.proofs.Painted.{place-reads, reads-buffer}
 use Rattle.blits.proofs.Visits.{y-from}
-use Rattle.blits.proofs.Rounds.{place-fits, tile-on}
 use Rattle.blits.proofs.Axes.{RowIn, row-of, row-by}
 use Rattle.blits.proofs.Drawn.{from-least, past-most, before-from, after-past}
-use Rattle.blits.proofs.Rooms.{edge-below, away-below, Inside, inside-of, none-in-row, none-in-columns, target-room, source-room, whole-row}
+use Rattle.blits.proofs.Rooms.{edge-below, away-below, Inside, inside-of, none-in-row, none-in-columns, target-room, source-columns, source-room, whole-row}
 
 -- a row of no pixels
 no-pixels : (paint : Paint) (back : Bool) (other : List ℕ) (at from : ℕ) (l : List ℕ) → rowOf paint back other at from 0 l ≡ l
@@ -48,7 +47,7 @@ module _ (paint : Paint) (width to from direction : ℕ) (across down : Range) (
   stride = sourcePixels paint width
 
   abbrev source : ℕ
-  source = startAt paint to from stride direction (across .from) (across .past) (down .from)
+  source = placeAt from stride direction (across .from) (across .past) (down .from)
 
   abbrev rows : ℕ → ℕ → ℕ → ℕ → ℕ → List ℕ
   rows apart at from n k = inTurn (rowAt paint (rightToLeft direction) (bottomToTop direction) width apart other at from n) k l
@@ -60,7 +59,7 @@ module _ (paint : Paint) (width to from direction : ℕ) (across down : Range) (
       (turn-idle (rowAt paint (rightToLeft direction) (bottomToTop direction) width stride other target source (across .past - across .from))
       (down .past - down .from) l
       (λ k p t.
-      row-none paint (rightToLeft direction) other (away (bottomToTop direction) target (width * k)) (onward paint (bottomToTop direction) source (stride * k))
+      row-none paint (rightToLeft direction) other (away (bottomToTop direction) target (width * k)) (away (bottomToTop direction) source (stride * k))
       (across .past - across .from) t (omega arith)))
 
   pub no-rows : down .past ≤ down .from → l ≡ boxOf paint width to from direction across down other l
@@ -71,24 +70,13 @@ module _ (paint : Paint) (width to from direction : ℕ) (across down : Range) (
       ∙ ap (rows stride target source (across .past - across .from)) none
 
   pub box-painted : (apart at start : ℕ) (k : List ℕ) → apart ≡ stride → at ≡ target
-      → start ≡ startAt paint to from apart direction (across .from) (across .past) (down .from)
+      → start ≡ placeAt from apart direction (across .from) (across .past) (down .from)
       → k ≡ rows apart at start (across .past - across .from) (down .past - down .from) → k ≡ boxOf paint width to from direction across down other l
   unfolding boxOf
   box-painted apart at start k s p q e =
       let n = across .past - across .from in
       e ∙ ap₂ (λ at start. rows apart at start n (down .past - down .from)) p q
-      ∙ ap (λ apart. rows apart target (startAt paint to from apart direction (across .from) (across .past) (down .from)) n (down .past - down .from)) s
-
--- where the source pixels begin: in a buffer, or in the first half of a row of a tile
-module _ (paint : Paint) (to from width direction a z r : ℕ) where
-  pub start-reads : reads paint ≡ true → startAt paint to from width direction a z r ≡ placeAt from width direction a z r
-  start-reads t = sym (second-of (isTiled paint) (tileAt to direction a z r) (placeAt from width direction a z r) (reads-buffer paint t))
-
-  pub start-fits : isTiled paint ≡ true → TileFits (startAt paint to from width direction a z r)
-  start-fits t =
-      let y = away (bottomToTop direction) (pointOf to .y) r in
-      let x = leftEdge (rightToLeft direction) (pointOf to .x) a z in
-      subst TileFits (first-of (isTiled paint) (tileAt to direction a z r) (placeAt from width direction a z r) t) (place-fits (y - origin) (x - origin))
+      ∙ ap (λ apart. rows apart target (placeAt from apart direction (across .from) (across .past) (down .from)) n (down .past - down .from)) s
 
 -- rows k apart are width * k apart in a buffer
 moved-down : (width y e t k o : ℕ) → o ≤ y + t → (y + t - o) * width + e + width * k ≡ (y + (t + k) - o) * width + e
@@ -126,7 +114,7 @@ module _ (corner width direction a z top bottom : ℕ) (small : (k : ℕ) → k 
   abbrev edge : ℕ
   edge = leftEdge (rightToLeft direction) (pointOf corner .x) a z
 
-  row-on : (k : ℕ) → k < bottom - top
+  pub row-on : (k : ℕ) → k < bottom - top
       → away (bottomToTop direction) (placeAt corner width direction a z top) (width * k) ≡ placeAt corner width direction a z (top + k)
   row-on k h =
       let same : top + 0 ≡ top = omega arith in
@@ -146,21 +134,12 @@ module _ (corner width direction a z top bottom : ℕ) (small : (k : ℕ) → k 
         far = rows-far width (y - origin) (edge - origin) (bottom - top) wide (omega (arith, y-small)) (omega (arith, x-small)) (omega arith);
       }
 
--- the same in a tile
-tiled-width : (paint : Paint) (width : ℕ) → isTiled paint ≡ true → sourcePixels paint width ≡ 32
-tiled-width (Solid pen) width t = absurd (false≢true t)
-tiled-width (Copied mix) width t = absurd (false≢true t)
-tiled-width (Moved mix) width t = absurd (false≢true t)
-tiled-width (Stippled s) width t = absurd (false≢true t)
-tiled-width (StippledWithin s) width t = absurd (false≢true t)
-tiled-width (Tiled mix) width t = refl
-
 -- how many of the rows from `row` on are from p to before q
 counted : (row rows p q : ℕ) → row ≤ p → q ≤ row + rows → min rows (q - row) - (p - row) ≡ q - p
 counted row rows p q low high = omega arith
 
 -- m visits of each of so many rows from `row` on, from column c on
-module _ (b : Blit) (other : List ℕ) (row rows c m own : ℕ) (fits : (r : ℕ) → row ≤ r → r < row + rows → RowFits b r c m other own)
+module _ (b : Blit) (other : List ℕ) (row rows c m own : ℕ) (fits : (r : ℕ) → row ≤ r → r < row + rows → RowFits b r c m (length other) own)
     (across down : Range) (columns : across ≡ partOf (visibleColumns b) c m) (lines : down ≡ partOf (visibleRows b) row rows) where
   abbrev rowVisits : ℕ → List ℕ → List ℕ
   rowVisits r = inTurn (λ i. visited b other (widthOf (b .size) * r + c + i)) m
@@ -191,7 +170,7 @@ module _ (b : Blit) (other : List ℕ) (row rows c m own : ℕ) (fits : (r : ℕ
 
   -- row top + k is one of the rows, and is visible
   module _ (k : ℕ) (h : k < bottom - top) where
-    row-fits : RowFits b (top + k) c m other own
+    row-fits : RowFits b (top + k) c m (length other) own
     row-fits = fits (top + k) (omega (arith, starts)) (omega (arith, ends, h))
 
     row-in : RowIn b (top + k)
@@ -218,27 +197,17 @@ module _ (b : Blit) (other : List ℕ) (row rows c m own : ℕ) (fits : (r : ℕ
   target-on : (k : ℕ) → k < bottom - top → away up (place (b .to) (b .width) top) (b .width * k) ≡ place (b .to) (b .width) (top + k)
   target-on = row-on (b .to) (b .width) (b .direction) a z top bottom small target-visible
 
-  abbrev start : ℕ → ℕ
-  start r = startAt (b .paint) (b .to) (b .from) (sourceWidth b) (b .direction) a z r
+  source-on : reads (b .paint) ≡ true → (k : ℕ) → k < bottom - top
+      → away up (place (b .from) (sourceWidth b) top) (sourceWidth b * k) ≡ place (b .from) (sourceWidth b) (top + k)
+  source-on t = row-on (b .from) (sourceWidth b) (b .direction) a z top bottom small (source-visible t)
 
-  source-on : hasPlace (b .paint) ≡ true → (k : ℕ) → k < bottom - top → onward (b .paint) up (start top) (sourceWidth b * k) ≡ start (top + k)
-  source-on p k h =
-      let same : top + 0 ≡ top = omega arith in
-      let first = subst (λ r. origin ≤ targetRow b r) same (target-visible 0 (omega arith)) in
-      by-cases (isTiled (b .paint))
-      (λ t.
-      rw (t, tiled-width (b .paint) (b .width) t)
-      (tile-on up (pointOf (b .to) .y) (leftEdge (rightToLeft (b .direction)) (pointOf (b .to) .x) a z - origin) top k first (target-visible k h)))
-      (λ t.
-      rw t (row-on (b .from) (sourceWidth b) (b .direction) a z top bottom small (source-visible (place-reads (b .paint) t p)) k h))
-
-  pub box-fits : b .width < 4294967296 → bottom ≤ 65536 → z ≤ 65536 → Lent (b .paint) other own
-      → BoxFits (b .paint) (b .width) (b .to) (b .from) (b .direction) across down other own
-  box-fits wide rows-small columns-small lent =
+  pub box-fits : b .width < 4294967296 → bottom ≤ 65536 → z ≤ 65536 → length other ≡ own
+      → BoxFits (b .paint) (b .width) (b .to) (b .from) (b .direction) across down (length other) own
+  box-fits wide rows-small columns-small same =
       record {
         across-small = columns-small;
         down-small = rows-small;
-        lent = lent;
+        same = same;
         target =
             λ some lines.
             rows-fit (b .to) (b .width) (b .direction) a z top bottom small target-visible own (omega (arith, wide)) (omega (arith, some, columns-small)) lines
@@ -250,15 +219,26 @@ module _ (b : Blit) (other : List ℕ) (row rows c m own : ℕ) (fits : (r : ℕ
             (λ k h. source-room b other (top + k) c m own (row-fits k h) a z begins stops some (row-in k h) t);
       }
 
+  -- what is read is in the source
+  pub box-inside : reads (b .paint) ≡ true → BoxInside (sourceWidth b) (b .height) (b .from) (b .direction) across down
+  box-inside t =
+      record {
+        columns =
+            λ some lines.
+            let first : 0 < bottom - top = omega arith in
+            source-columns b other (top + 0) c m own (row-fits 0 first) a z begins stops some (row-in 0 first) t;
+        rows = λ k h. row-in k h .source t;
+      }
+
   abbrev boxRow : ℕ → List ℕ → List ℕ
   boxRow =
       rowAt (b .paint) (rightToLeft (b .direction)) up (b .width) (sourceWidth b) other (place (b .to) (b .width) top)
-      (start top) (z - a)
+      (place (b .from) (sourceWidth b) top) (z - a)
 
   one-row : (k : ℕ) → k < bottom - top → (t : List ℕ) → rowVisits (top + k) t ≡ boxRow k t
   one-row k h t =
       let at = away up (place (b .to) (b .width) top) (b .width * k) in
-      let from = onward (b .paint) up (start top) (sourceWidth b * k) in
+      let from = away up (place (b .from) (sourceWidth b) top) (sourceWidth b * k) in
       by-cases (leb z a)
       (λ u.
       let e = leb-true z a u in

@@ -4,47 +4,46 @@ use mathlib.Core.Path.{_≡_, ap, sym, subst, _∙_}
 use mathlib.Core.Bool.{Bool, true, false, cond}
 use mathlib.Core.List.{List}
 use mathlib.Core.Logic.{⊎-elim}
-use Prim.Native.Nat.{ℕ, _+_, _-_, _*_, _/_, _%_, _≤_, _<_, min, max}
+use Prim.Native.Nat.{ℕ, _+_, _-_, _*_, _≤_, _<_, min, max}
 use native.Mathlib.Nat.{add-assoc}
 use native.Mathlib.Omega.{arith}
 use lib.ListN.{getD}
-use Rattle.lemmas.proofs.Booleans.{by-cases}
 use Rattle.geometry.specs.Coordinates.{origin, pointOf}
 use Rattle.geometry.specs.Blit.{widthOf, rightToLeft, away}
 use Rattle.lemmas.specs.Sweeps.{sweep}
 use Rattle.lemmas.proofs.Sweeps.{sweep-agree, turn-sweep}
 use Rattle.lemmas.specs.Turns.{inTurn}
 use Rattle.geometry.specs.Clip.{placeIn}
-use Rattle.blits.specs.Blits.{painted, reads, isTiled, hasPlace, sourceWidth, targetAt, sourceAt, visibleAt, tilePlace, sourcePlace, visited}
+use Rattle.blits.specs.Blits.{painted, reads, sourceWidth, targetAt, sourceAt, visibleAt, visited}
 use Rattle.blits.specs.Ranges.{visibleColumns}
-use Rattle.blits.specs.Places.{targetRow, sourceRow, leftEdge, placeAt, startAt}
-use Rattle.blits.specs.Rows.{wrapped, rowOf}
+use Rattle.blits.specs.Places.{targetRow, sourceRow, leftEdge}
+use Rattle.blits.specs.Rows.{rowOf}
 use Rattle.blits.specs.declared.Blit.{Blit}
 use Rattle.blits.specs.declared.Paint.{Paint}
 use Rattle.lemmas.proofs.Turns.{turn-idle}
-use Rattle.blits.proofs.Painted.{same-source, place-reads}
+use Rattle.blits.proofs.Painted.{same-source}
 use Rattle.blits.proofs.Visits.{x-from, visit-drawn, visit-hidden}
 use Rattle.blits.proofs.Axes.{ColumnIn, RowIn, column-of, column-by, target-is, source-is, in-visible, visible-in}
 
 -- a sweep over the places of a row, in either direction
 sweep-row : (paint : Paint) (back : Bool) (other : List ℕ) (at from n : ℕ) (place source : ℕ → ℕ)
     → ((k : ℕ) → k < n → place k ≡ cond back (at + n - (k + 1)) (at + k))
-    → ((k : ℕ) → k < n → hasPlace paint ≡ true → source k ≡ wrapped paint from (cond back (from + n - (k + 1)) (from + k))) → (l : List ℕ)
+    → ((k : ℕ) → k < n → reads paint ≡ true → source k ≡ cond back (from + n - (k + 1)) (from + k)) → (l : List ℕ)
     → sweep place (λ k m. painted paint other m (source k) (getD m (place k) 0)) n l ≡ rowOf paint back other at from n l
 unfolding rowOf
 sweep-row paint false other at from n place source p q l =
     sweep-agree place (λ k m. painted paint other m (source k) (getD m (place k) 0)) l (λ k. at + k)
-    (λ k m. painted paint other m (wrapped paint from (from + k)) (getD m (at + k) 0)) n p
+    (λ k m. painted paint other m (from + k) (getD m (at + k) 0)) n p
     (λ k h.
     let m = sweep place (λ k m. painted paint other m (source k) (getD m (place k) 0)) k l in
-    ap (λ x. painted paint other m (source k) (getD m x 0)) (p k h) ∙ same-source paint other m (source k) (wrapped paint from (from + k)) (getD m (at + k) 0) (q k h))
+    ap (λ x. painted paint other m (source k) (getD m x 0)) (p k h) ∙ same-source paint other m (source k) (from + k) (getD m (at + k) 0) (q k h))
 sweep-row paint true other at from n place source p q l =
     sweep-agree place (λ k m. painted paint other m (source k) (getD m (place k) 0)) l (λ k. at + n - (k + 1))
-    (λ k m. painted paint other m (wrapped paint from (from + n - (k + 1))) (getD m (at + n - (k + 1)) 0)) n p
+    (λ k m. painted paint other m (from + n - (k + 1)) (getD m (at + n - (k + 1)) 0)) n p
     (λ k h.
     let m = sweep place (λ k m. painted paint other m (source k) (getD m (place k) 0)) k l in
     ap (λ x. painted paint other m (source k) (getD m x 0)) (p k h)
-    ∙ same-source paint other m (source k) (wrapped paint from (from + n - (k + 1))) (getD m (at + n - (k + 1)) 0) (q k h))
+    ∙ same-source paint other m (source k) (from + n - (k + 1)) (getD m (at + n - (k + 1)) 0) (q k h))
 
 -- the columns beyond column a + k
 beyond : (a k z : ℕ) → a + k < z → z ≡ a + k + 1 + (z - (a + k + 1))
@@ -94,23 +93,6 @@ column-place true base x a z k high small h low far =
     back-place base x a z k (z - (a + k + 1)) (x - (z - 1) - origin) (beyond a k z h) (beyond-left x a k z h far)
 column-place false base x a z k high small h low far = omega arith
 
--- the same in a tile, of which row j is read from the column of place e on
-tile-place : (back : Bool) (j e n k : ℕ) → k < n →
-    let from = 32 * j + e % 16 in
-    32 * j + cond back (e + n - (k + 1)) (e + k) % 16 ≡ from / 32 * 32 + cond back (from + n - (k + 1)) (from + k) % 16
-tile-place true j e n k h = omega arith
-tile-place false j e n k h = omega arith
-
-tile-column : (back : Bool) (x y a z k : ℕ) → 65536 ≤ x → z ≤ 65536 → a + k < z → origin ≤ away back x a → origin ≤ away back x (z - 1) →
-    let from = tilePlace (record { x = leftEdge back x a z; y = y }) in
-    tilePlace (record { x = away back x (a + k); y = y }) ≡ from / 32 * 32 + cond back (from + (z - a) - (k + 1)) (from + k) % 16
-tile-column back x y a z k high small h low far =
-    let j = (y - origin) % 8 in
-    let zero-less : away back x (a + k) - origin ≡ 0 + (away back x (a + k) - origin) = omega arith in
-    let edge : 0 + (leftEdge back x a z - origin) ≡ leftEdge back x a z - origin = omega arith in
-    ap (λ e. 32 * j + e % 16) (zero-less ∙ column-place back 0 x a z k high small h low far ∙ ap (λ e. cond back (e + (z - a) - (k + 1)) (e + k)) edge)
-    ∙ tile-place back j (leftEdge back x a z - origin) (z - a) k (omega arith)
-
 module _ (b : Blit) (other : List ℕ) (r c m : ℕ) (fits : c + m ≤ widthOf (b .size)) (size-small : b .size < 4294967296) where
   abbrev visit : ℕ → List ℕ → List ℕ
   visit i l = visited b other (widthOf (b .size) * r + c + i) l
@@ -144,7 +126,7 @@ module _ (b : Blit) (other : List ℕ) (r c m : ℕ) (fits : c + m ≤ widthOf (
     place i = placeIn (b .width) (targetAt b (widthOf (b .size) * r + c + i))
 
     abbrev source : ℕ → ℕ
-    source i = sourcePlace b (widthOf (b .size) * r + c + i)
+    source i = placeIn (sourceWidth b) (sourceAt b (widthOf (b .size) * r + c + i))
 
     row-swept : (l : List ℕ) → inTurn visit m l
         ≡ sweep (λ k. place (a - c + k)) (λ k m. painted (b .paint) other m (source (a - c + k)) (getD m (place (a - c + k)) 0)) (z - a) l
@@ -187,11 +169,10 @@ module _ (b : Blit) (other : List ℕ) (r c m : ℕ) (fits : c + m ≤ widthOf (
         ∙ column-place (rightToLeft (b .direction)) targetBase (pointOf (b .to) .x) a z k (x-from (b .to)) (omega (arith, ends, fits, size-small))
         (omega (arith, h)) (omega (arith, window-in, first .low)) (omega (arith, window-in, last .low))
 
-    read-place : (k : ℕ) → k < z - a → reads (b .paint) ≡ true →
+    source-place : (k : ℕ) → k < z - a → reads (b .paint) ≡ true →
         let from = sourceBase + (leftEdge (rightToLeft (b .direction)) (pointOf (b .from) .x) a z - origin) in
-        placeIn (sourceWidth b) (sourceAt b (widthOf (b .size) * r + c + (a - c + k)))
-        ≡ cond (rightToLeft (b .direction)) (from + (z - a) - (k + 1)) (from + k)
-    read-place k h t =
+        source (a - c + k) ≡ cond (rightToLeft (b .direction)) (from + (z - a) - (k + 1)) (from + k)
+    source-place k h t =
         let j = column k h in
         let first = within a (omega arith) some .source t in
         let last = within (z - 1) (omega (arith, some)) (omega (arith, some)) .source t in
@@ -199,27 +180,15 @@ module _ (b : Blit) (other : List ℕ) (r c m : ℕ) (fits : c + m ≤ widthOf (
         ∙ column-place (rightToLeft (b .direction)) sourceBase (pointOf (b .from) .x) a z k (x-from (b .from)) (omega (arith, ends, fits, size-small))
         (omega (arith, h)) (first .0) (last .0)
 
-    abbrev start : ℕ
-    start = startAt (b .paint) (b .to) (b .from) (sourceWidth b) (b .direction) a z r
-
-    source-place : (k : ℕ) → k < z - a → hasPlace (b .paint) ≡ true
-        → source (a - c + k) ≡ wrapped (b .paint) start (cond (rightToLeft (b .direction)) (start + (z - a) - (k + 1)) (start + k))
-    source-place k h p =
-        let j = column k h in
-        let first = within a (omega arith) some in
-        let last = within (z - 1) (omega (arith, some)) (omega (arith, some)) in
-        by-cases (isTiled (b .paint))
-        (λ t.
-        rw t
-        (ap (λ i. tilePlace (targetAt b i)) (j .0) ∙ ap tilePlace (target-is b r (a + k) (j .1) size-small)
-        ∙ tile-column (rightToLeft (b .direction)) (pointOf (b .to) .x) (targetRow b r) a z k (x-from (b .to)) (omega (arith, ends, fits, size-small))
-        (omega (arith, h)) (omega (arith, window-in, first .low)) (omega (arith, window-in, last .low))))
-        (λ t. rw t (read-place k h (place-reads (b .paint) t p)))
-
     pub row-drawn : (l : List ℕ) →
-        rowOf (b .paint) (rightToLeft (b .direction)) other (placeAt (b .to) (b .width) (b .direction) a z r) start (z - a) l ≡ inTurn visit m l
+        rowOf (b .paint) (rightToLeft (b .direction)) other
+        (targetBase + (leftEdge (rightToLeft (b .direction)) (pointOf (b .to) .x) a z - origin))
+        (sourceBase + (leftEdge (rightToLeft (b .direction)) (pointOf (b .from) .x) a z - origin)) (z - a) l
+        ≡ inTurn visit m l
     row-drawn l =
         sym
         (row-swept l
-        ∙ sweep-row (b .paint) (rightToLeft (b .direction)) other (placeAt (b .to) (b .width) (b .direction) a z r) start (z - a)
-        (λ k. place (a - c + k)) (λ k. source (a - c + k)) place-is source-place l)
+        ∙ sweep-row (b .paint) (rightToLeft (b .direction)) other
+        (targetBase + (leftEdge (rightToLeft (b .direction)) (pointOf (b .to) .x) a z - origin))
+        (sourceBase + (leftEdge (rightToLeft (b .direction)) (pointOf (b .from) .x) a z - origin)) (z - a) (λ k. place (a - c + k))
+        (λ k. source (a - c + k)) place-is source-place l)

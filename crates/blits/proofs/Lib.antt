@@ -1,5 +1,4 @@
 pub mod Visits
-pub mod Rounds
 pub mod Axes
 pub mod Drawn
 pub mod Bounds
@@ -12,3 +11,4 @@ pub mod Rowed
 pub mod Loops
 pub mod Boxes
 pub mod RowBoxes
+pub mod Planes

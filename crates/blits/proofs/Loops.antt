@@ -1,6 +1,6 @@
 -- Visits row after row: what their loop keeps, whole rows and the rest, and the tests before them.
 -- Assumes nothing.
-use mathlib.Core.Path.{_≡_, refl, ap, sym, subst, _∙_}
+use mathlib.Core.Path.{_≡_, refl, ap, sym, _∙_}
 use mathlib.Core.Bool.{true, false, cond, _&&_}
 use mathlib.Core.List.{List}
 use Prim.Native.Nat.{ℕ, suc, _+_, _-_, _*_, _/_, _%_, _≤_, _<_, min}
@@ -13,33 +13,27 @@ use Rattle.lemmas.proofs.Booleans.{by-cases, and-left, and-right}
 use Rattle.geometry.specs.Blit.{widthOf, heightOf, blitCount}
 use Rattle.geometry.proofs.Blits.{factor-pos, count-lt}
 use Rattle.lemmas.specs.Turns.{inTurn}
-use Rattle.blits.specs.Blits.{isTiled, RowsTwice, visited, lentSize, windowInside, blitFits, blitted, Lent, Fitting, RowFits, WholeRows}
+use Rattle.blits.specs.Blits.{visited, windowInside, blitFits, blitted, Fitting, RowFits, WholeRows}
 use Rattle.blits.specs.declared.Blit.{Blit}
 use Rattle.lemmas.proofs.Turns.{turn-none, turn-end, turn-join, turn-agree}
 
-pub fitting-of : (b : Blit) (first n : ℕ) (other : List ℕ) (own : ℕ) → (isTiled (b .paint) ≡ true → RowsTwice other)
-    → blitFits b first n (length other) own ≡ true → Fitting b first n other own
-fitting-of b first n other own twice h =
+pub fitting-of : (b : Blit) (first n other own : ℕ) → blitFits b first n other own ≡ true → Fitting b first n other own
+fitting-of b first n other own h =
     let p = eqb own (b .width * b .height) in
-    let q = eqb (length other) (lentSize (b .paint) (b .width * b .height)) in
+    let q = eqb other (b .width * b .height) in
     let r = windowInside (b .width) (b .height) (b .window) in
     let s = leb (first + n) (blitCount (b .size)) in
     let three = and-left (p && q && r) s h in
     let two = and-left (p && q) r three in
-    let area = eqb-true own (b .width * b .height) (and-left p q two) in
     record {
-      own-area = area;
-      lent =
-          record {
-            size = eqb-true (length other) (lentSize (b .paint) (b .width * b .height)) (and-right p q two) ∙ ap (lentSize (b .paint)) (sym area);
-            twice = twice;
-          };
+      own-area = eqb-true own (b .width * b .height) (and-left p q two);
+      other-area = eqb-true other (b .width * b .height) (and-right p q two);
       inside = and-right (p && q) r three;
       visits = leb-true (first + n) (blitCount (b .size)) (and-right (p && q && r) s h);
     }
 
 -- a blit with visits has columns
-pub across-some : (b : Blit) (first n : ℕ) (other : List ℕ) (own : ℕ) → Fitting b first n other own → 0 < n → 0 < widthOf (b .size)
+pub across-some : (b : Blit) (first n other own : ℕ) → Fitting b first n other own → 0 < n → 0 < widthOf (b .size)
 across-some b first n other own f some = factor-pos (widthOf (b .size)) (heightOf (b .size)) first (omega (arith, f .visits, some))
 
 -- where a visit stands
@@ -74,7 +68,7 @@ row-below w h k r c l e =
     let far = leb-false (suc r) h t in
     absurd (omega (arith, l, e, mul-le-mul-left {m = h} {n = r} w (omega (arith, far)))))
 
-row-fits : (b : Blit) (first n k row column m : ℕ) (other : List ℕ) (own : ℕ) → b .size < 4294967296 → Fitting b first n other own → k < n
+row-fits : (b : Blit) (first n k row column m : ℕ) (other own : ℕ) → b .size < 4294967296 → Fitting b first n other own → k < n
     → Stands (widthOf (b .size)) first k row column → m ≡ min (n - k) (widthOf (b .size) - column) → RowFits b row column m other own
 row-fits b first n k row column m other own small f h s e =
     record {
@@ -82,7 +76,7 @@ row-fits b first n k row column m other own small f h s e =
       row-small = omega (arith, small, row-below (widthOf (b .size)) (heightOf (b .size)) (first + k) row column (omega (arith, f .visits, h)) (s .here));
       columns = within (widthOf (b .size)) (n - k) column m e (s .short);
       own-area = f .own-area;
-      lent = f .lent;
+      other-area = f .other-area;
       inside = f .inside;
     }
   where
@@ -106,12 +100,12 @@ visits-more b other l k₁ k₂ first k start m e s g =
 pub record Visiting (b : Blit) (other : List ℕ) (first n : ℕ) (l t : List ℕ) (row column k : ℕ) : Type 0 where
   pub few : k ≤ n
   pub long : length t ≡ length l
-  pub fits : Fitting b first n other (length l)
+  pub fits : Fitting b first n (length other) (length l)
   pub small : b .size < 4294967296
   pub stands : k < n → Stands (widthOf (b .size)) first k row column
   pub done : t ≡ inTurn (λ i. visited b other (first + i)) k l
 
-pub visiting-start : (b : Blit) (other : List ℕ) (first n : ℕ) (l : List ℕ) → 0 < n → b .size < 4294967296 → Fitting b first n other (length l)
+pub visiting-start : (b : Blit) (other : List ℕ) (first n : ℕ) (l : List ℕ) → 0 < n → b .size < 4294967296 → Fitting b first n (length other) (length l)
     → Visiting b other first n l l (first / widthOf (b .size)) (first % widthOf (b .size)) 0
 visiting-start b other first n l some small f =
     record {
@@ -119,7 +113,7 @@ visiting-start b other first n l some small f =
       long = refl;
       fits = f;
       small = small;
-      stands = λ _. stands-first (widthOf (b .size)) first (across-some b first n other (length l) f some);
+      stands = λ _. stands-first (widthOf (b .size)) first (across-some b first n (length other) (length l) f some);
       done = turn-none (λ i. visited b other (first + i)) l;
     }
 
@@ -133,9 +127,9 @@ module _ {b : Blit} {other : List ℕ} {first n : ℕ} {l t : List ℕ} {row col
 
   -- the m visits up to the row's end, or up to the last visit
   module _ (h : k < n) (m : ℕ) (e : m ≡ min (n - k) (widthOf (b .size) - column)) where
-    pub visiting-row : RowFits b row column m other (length t)
+    pub visiting-row : RowFits b row column m (length other) (length t)
     visiting-row =
-        rw (v .long) (row-fits b first n k row column m other (length l) (v .small) (v .fits) h (v .stands h) e)
+        rw (v .long) (row-fits b first n k row column m (length other) (length l) (v .small) (v .fits) h (v .stands h) e)
 
     pub visiting-more : (0 < m) × (k + m ≤ n)
     visiting-more = (omega (arith, v .stands h .short), omega arith)
@@ -157,13 +151,13 @@ module _ (b : Blit) (first n r : ℕ) (q : WholeRows (b .size) first n r) where
   abbrev done : ℕ
   done = widthOf (b .size) * r
 
-  pub whole-fits : (other : List ℕ) (own : ℕ) → Fitting b first n other own → Fitting b 0 done other own
+  pub whole-fits : (other own : ℕ) → Fitting b first n other own → Fitting b 0 done other own
   whole-fits other own f =
-      record { own-area = f .own-area; lent = f .lent; inside = f .inside; visits = omega (arith, f .visits, q .fit) }
+      record { own-area = f .own-area; other-area = f .other-area; inside = f .inside; visits = omega (arith, f .visits, q .fit) }
 
-  pub rest-fits : (other : List ℕ) (own own′ : ℕ) → own′ ≡ own → Fitting b first n other own → Fitting b (first + done) (n - done) other own′
+  pub rest-fits : (other own own′ : ℕ) → own′ ≡ own → Fitting b first n other own → Fitting b (first + done) (n - done) other own′
   rest-fits other own own′ e f =
-      record { own-area = e ∙ f .own-area; lent = subst (Lent (b .paint) other) (sym e) (f .lent); inside = f .inside; visits = omega (arith, f .visits, q .fit) }
+      record { own-area = e ∙ f .own-area; other-area = f .other-area; inside = f .inside; visits = omega (arith, f .visits, q .fit) }
 
   pub whole-first : (other l k : List ℕ) → k ≡ inTurn (visited b other) done l → k ≡ inTurn (λ i. visited b other (first + i)) done l
   whole-first other l k e =

@@ -1,29 +1,24 @@
 -- Rows by the paint: one drawn is a row of visits, from whatever source where nothing is read; and what the loops need.
 -- Assumes nothing.
 use mathlib.Core.Path.{_≡_, refl, ap, sym, subst, _∙_}
-use mathlib.Core.Bool.{Bool, true, false, cond, _||_, false≢true}
+use mathlib.Core.Bool.{Bool, true, false, cond}
 use mathlib.Core.List.{List}
-use Prim.Native.Nat.{ℕ, _+_, _-_, _*_, _/_, _%_, _≤_}
+use Prim.Native.Nat.{ℕ, _+_, _≤_}
 use native.Mathlib.Omega.{arith}
-use borrow.Author.Tests.{ltb-true, ltb-false}
-use lib.Dec.{ltb}
 use lib.ListN.{length, getD}
 use Rattle.raster.specs.declared.Pen.{Pen}
-use Rattle.rows.specs.Rows.{mixed, filledRow, copiedRow, movedRow, movedBackRow, tiledRow}
+use Rattle.rows.specs.Rows.{mixed, filledRow, copiedRow, movedRow, movedBackRow}
 use Rattle.rows.specs.declared.Mix.{Mix}
-use Rattle.lemmas.proofs.Booleans.{by-cases}
 use Rattle.lemmas.proofs.Orders.{turned-from}
-use Rattle.lemmas.proofs.Sweeps.{sweep-agree}
 use Rattle.rows.proofs.Orders.{fill-turned, copy-turned}
-use Rattle.rows.proofs.Fitting.{filled-row, copied-row, moved-row, moved-back-row, tiled-row}
+use Rattle.rows.proofs.Fitting.{filled-row, copied-row, moved-row, moved-back-row}
 use Rattle.stipples.specs.Stipples.{bitAt, stippled}
 use Rattle.stipples.specs.declared.Stipple.{Stipple}
-use Rattle.blits.specs.Blits.{painted, reads, isTiled, hasPlace, sourcePixels, RowsTwice, Lent}
-use Rattle.blits.specs.Rows.{rowOf, RowsFit, TileFits, PaintFits}
+use Rattle.blits.specs.Blits.{painted, reads, sourcePixels}
+use Rattle.blits.specs.Rows.{rowOf, RowsFit, PaintFits}
 use Rattle.blits.specs.Bits.{expanded, expandedWithin, expandedBack}
-use Rattle.blits.proofs.Rounds.{before-end, past-end}
 use Rattle.blits.specs.declared.Paint.{Paint}
-use Rattle.blits.specs.declared.Paint.the-variants.{Solid, Copied, Moved, Stippled, StippledWithin, Tiled}
+use Rattle.blits.specs.declared.Paint.the-variants.{Solid, Copied, Moved, Stippled, StippledWithin}
 
 pub solid-row : (back : Bool) (pen : Pen) (other l r : List ℕ) (at from n : ℕ) → at + n ≤ length l → r ≡ filledRow pen n l at
     → r ≡ rowOf (Solid pen) back other at from n l
@@ -63,43 +58,16 @@ unfolding rowOf
 stippled-within false s l r at from n e other = e
 stippled-within true s l r at from n e other = e
 
--- a row of a tile goes round, since each is there twice
-module _ (other : List ℕ) (from : ℕ) (twice : RowsTwice other) (f : TileFits from) where
-  tile-byte : (k : ℕ) → getD other (from + k % 16) 0 ≡ getD other (from / 32 * 32 + (from + k) % 16) 0
-  tile-byte k =
-      let s = from % 32 + k % 16 in
-      by-cases (ltb s 16)
-      (λ t. ap (λ i. getD other i 0) (before-end from k (ltb-true s 16 t)))
-      (λ t.
-      let places = past-end from k (ltb-false s 16 t) (omega (arith, f .first-half)) in
-      ap (λ i. getD other i 0) (places .0) ∙ twice (from / 32) (s - 16) (omega (arith, f .inside)) (omega (arith, f .first-half))
-      ∙ ap (λ i. getD other i 0) (places .1))
-
-  module _ (mix : Mix) (l r : List ℕ) (at n : ℕ) (h : at + n ≤ length l) (s : length other ≡ 256) (e : r ≡ tiledRow mix n l at other from) where
-    tiled-right : r ≡ rowOf (Tiled mix) false other at from n l
-    unfolding rowOf
-    tiled-right =
-        e ∙ sym (tiled-row mix n l at other from h (omega (arith, s, f .inside, f .first-half)))
-        ∙ sweep-agree (λ k. at + k) (λ k m. mixed mix (getD other (from + k % 16) 0) (getD m (at + k) 0)) l (λ k. at + k)
-        (λ k m. mixed mix (getD other (from / 32 * 32 + (from + k) % 16) 0) (getD m (at + k) 0)) n (λ k p. refl)
-        (λ k p. rw (tile-byte k))
-
-    pub tiled-from : (back : Bool) → r ≡ rowOf (Tiled mix) back other at from n l
-    unfolding rowOf
-    tiled-from false = tiled-right
-    tiled-from true = tiled-right ∙ sym (turned-from (λ x. mixed mix (getD other (from / 32 * 32 + x % 16) 0)) n l at from)
-
--- the new byte is the same from another source where that is of no matter
-pub same-source : (paint : Paint) (other own : List ℕ) (x y d : ℕ) → (hasPlace paint ≡ true → x ≡ y) → painted paint other own x d ≡ painted paint other own y d
+-- the new byte is the same from another source where nothing is read
+pub same-source : (paint : Paint) (other own : List ℕ) (x y d : ℕ) → (reads paint ≡ true → x ≡ y) → painted paint other own x d ≡ painted paint other own y d
 same-source (Solid pen) other own x y d h = refl
 same-source (Copied mix) other own x y d h = ap (λ x. mixed mix (getD other x 0) d) (h refl)
 same-source (Moved mix) other own x y d h = ap (λ x. mixed mix (getD own x 0) d) (h refl)
 same-source (Stippled s) other own x y d h = ap (λ x. stippled s (bitAt other x) d) (h refl)
 same-source (StippledWithin s) other own x y d h = ap (λ x. stippled s (bitAt own x) d) (h refl)
-same-source (Tiled mix) other own x y d h = ap (λ x. mixed mix (getD other x 0) d) (h refl)
 
--- a row is the same from another place where that is of no matter
-pub same-source-row : (paint : Paint) (back : Bool) (other : List ℕ) (at x y n : ℕ) (l : List ℕ) → (hasPlace paint ≡ true → x ≡ y)
+-- a row is the same from another place where nothing is read
+pub same-source-row : (paint : Paint) (back : Bool) (other : List ℕ) (at x y n : ℕ) (l : List ℕ) → (reads paint ≡ true → x ≡ y)
     → rowOf paint back other at x n l ≡ rowOf paint back other at y n l
 unfolding rowOf
 same-source-row (Solid pen) false other at x y n l h = refl
@@ -108,40 +76,14 @@ same-source-row (Copied mix) back other at x y n l h = ap (λ x. rowOf (Copied m
 same-source-row (Moved mix) back other at x y n l h = ap (λ x. rowOf (Moved mix) back other at x n l) (h refl)
 same-source-row (Stippled s) back other at x y n l h = ap (λ x. rowOf (Stippled s) back other at x n l) (h refl)
 same-source-row (StippledWithin s) back other at x y n l h = ap (λ x. rowOf (StippledWithin s) back other at x n l) (h refl)
-same-source-row (Tiled mix) back other at x y n l h = ap (λ x. rowOf (Tiled mix) back other at x n l) (h refl)
-
--- pixels are read at places, and not in a tile
-pub reads-place : (paint : Paint) → reads paint ≡ true → hasPlace paint ≡ true
-reads-place paint h = ap (λ t. t || isTiled paint) h
-
-pub place-reads : (paint : Paint) → isTiled paint ≡ false → hasPlace paint ≡ true → reads paint ≡ true
-place-reads paint t h = by (reads paint) (isTiled paint) t h
-  where
-    by : (r u : Bool) → u ≡ false → (r || u) ≡ true → r ≡ true
-    by true u t h = refl
-    by false u t h = absurd (false≢true (sym t ∙ h))
-
-pub reads-buffer : (paint : Paint) → reads paint ≡ true → isTiled paint ≡ false
-reads-buffer (Solid pen) h = refl
-reads-buffer (Copied mix) h = refl
-reads-buffer (Moved mix) h = refl
-reads-buffer (Stippled s) h = refl
-reads-buffer (StippledWithin s) h = refl
-reads-buffer (Tiled mix) h = absurd (false≢true h)
 
 -- what the rows of a paint need, by the paint that it is
-module _ {p q : Paint} {up : Bool} {width stride at from n rows own : ℕ} {other : List ℕ} (is : p ≡ q) (f : PaintFits p up width stride at from n rows other own) where
+module _ {p q : Paint} {up : Bool} {width stride at from n rows other own : ℕ} (is : p ≡ q) (f : PaintFits p up width stride at from n rows other own) where
   pub stride-is : stride ≡ sourcePixels q width
   stride-is = f .apart ∙ ap (λ p. sourcePixels p width) is
 
   pub source-own : reads q ≡ true → RowsFit up stride from n rows (sourcePixels q own)
   source-own r = subst (λ p. RowsFit up stride from n rows (sourcePixels p own)) is (f .source (ap reads is ∙ r))
 
-  pub lent-is : Lent q other own
-  lent-is = subst (λ p. Lent p other own) is (f .lent)
-
-  pub source-other : reads q ≡ true → RowsFit up stride from n rows (sourcePixels q (length other))
-  source-other r = rw (lent-is .size, reads-buffer q r) (source-own r)
-
-  pub tile-is : isTiled q ≡ true → TileFits from
-  tile-is t = f .tile (ap isTiled is ∙ t)
+  pub source-other : reads q ≡ true → RowsFit up stride from n rows (sourcePixels q other)
+  source-other r = rw (f .same) (source-own r)

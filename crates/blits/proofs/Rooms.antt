@@ -1,26 +1,27 @@
 -- One row drawn by its parts: what it needs, and that it is the visits of that row.
 -- Assumes nothing.
 use mathlib.Core.Path.{_≡_, ap, sym, _∙_}
-use mathlib.Core.Bool.{Bool, true, false, _&&_, false≢true}
+use mathlib.Core.Bool.{Bool, true, false, _&&_}
 use mathlib.Core.List.{List}
 use Prim.Native.Nat.{ℕ, _+_, _-_, _*_, _≤_, _<_, min, max}
 use native.Mathlib.Nat.{mul-assoc}
 use native.Mathlib.Omega.{arith}
 use borrow.Author.Tests.{leb-true}
 use lib.Dec.{leb}
+use lib.ListN.{length}
 use Rattle.lemmas.proofs.Booleans.{and-left, and-right}
 use Rattle.geometry.specs.Coordinates.{origin, pointOf}
 use Rattle.geometry.specs.Blit.{widthOf, rightToLeft, away}
 use Rattle.geometry.specs.declared.Window.{Window}
 use Rattle.geometry.proofs.Clips.{area}
 use Rattle.lemmas.specs.Turns.{inTurn}
-use Rattle.blits.specs.Blits.{reads, hasPlace, sourcePixels, sourceWidth, visited, windowInside, RowFits}
+use Rattle.blits.specs.Blits.{reads, sourcePixels, sourceWidth, visited, windowInside, RowFits}
 use Rattle.blits.specs.Ranges.{visibleColumns}
-use Rattle.blits.specs.Places.{targetRow, sourceRow, leftEdge, placeAt, startAt}
+use Rattle.blits.specs.Places.{targetRow, sourceRow, leftEdge, placeAt}
 use Rattle.blits.specs.Rows.{rowOf}
 use Rattle.blits.specs.declared.Blit.{Blit}
 use Rattle.blits.specs.declared.Paint.{Paint}
-use Rattle.blits.specs.declared.Paint.the-variants.{Solid, Copied, Moved, Stippled, StippledWithin, Tiled}
+use Rattle.blits.specs.declared.Paint.the-variants.{Solid, Copied, Moved, Stippled, StippledWithin}
 use Rattle.blits.proofs.Visits.{x-from}
 use Rattle.blits.proofs.Axes.{ColumnIn, RowIn, column-of}
 use Rattle.blits.proofs.Painted.{same-source-row}
@@ -51,14 +52,12 @@ room width height y e n some low high row =
     omega (arith, area width height (e - origin + n - 1) (y - origin) (omega arith) row)
 
 -- a buffer as a source: as many rows, each of the source's width
-source-area : (paint : Paint) (width height own : ℕ) → reads paint ≡ true → own ≡ width * height
-    → sourcePixels paint width * height ≡ sourcePixels paint own
-source-area (Solid pen) width height own r e = sym e
-source-area (Copied mix) width height own r e = sym e
-source-area (Moved mix) width height own r e = sym e
-source-area (Stippled s) width height own r e = omega (arith, e, mul-assoc 8 width height)
-source-area (StippledWithin s) width height own r e = omega (arith, e, mul-assoc 8 width height)
-source-area (Tiled mix) width height own r e = absurd (false≢true r)
+source-area : (paint : Paint) (width height own : ℕ) → own ≡ width * height → sourcePixels paint width * height ≡ sourcePixels paint own
+source-area (Solid pen) width height own e = sym e
+source-area (Copied mix) width height own e = sym e
+source-area (Moved mix) width height own e = sym e
+source-area (Stippled s) width height own e = omega (arith, e, mul-assoc 8 width height)
+source-area (StippledWithin s) width height own e = omega (arith, e, mul-assoc 8 width height)
 
 pub record Inside (width height : ℕ) (w : Window) : Type 0 where
   pub left-in : origin ≤ w .left
@@ -81,7 +80,7 @@ inside-of width height w h =
       bottom-in = leb-true (w .bottom) (origin + height) (and-right (l && r && t) b h);
     }
 
-module _ (b : Blit) (other : List ℕ) (r c m own : ℕ) (f : RowFits b r c m other own) (a z : ℕ)
+module _ (b : Blit) (other : List ℕ) (r c m own : ℕ) (f : RowFits b r c m (length other) own) (a z : ℕ)
     (begins : a ≡ max c (visibleColumns b .from)) (stops : z ≡ min (c + m) (visibleColumns b .past)) where
   abbrev visit : ℕ → List ℕ → List ℕ
   visit i l = visited b other (widthOf (b .size) * r + c + i) l
@@ -108,7 +107,7 @@ module _ (b : Blit) (other : List ℕ) (r c m own : ℕ) (f : RowFits b r c m ot
     targetPlace = placeAt (b .to) (b .width) (b .direction) a z r
 
     abbrev sourcePlace : ℕ
-    sourcePlace = startAt (b .paint) (b .to) (b .from) (sourceWidth b) (b .direction) a z r
+    sourcePlace = placeAt (b .from) (sourceWidth b) (b .direction) a z r
 
     inside : Inside (b .width) (b .height) (b .window)
     inside = inside-of (b .width) (b .height) (b .window) (f .inside)
@@ -138,21 +137,27 @@ module _ (b : Blit) (other : List ℕ) (r c m own : ℕ) (f : RowFits b r c m ot
               (omega (arith, row .low, row .high, inside .top-in, inside .bottom-in)),
         )
 
-    pub source-room : reads (b .paint) ≡ true → placeAt (b .from) (sourceWidth b) (b .direction) a z r + (z - a) ≤ sourcePixels (b .paint) own
-    source-room t =
+    pub source-columns : reads (b .paint) ≡ true →
+        let edge = leftEdge back (pointOf (b .from) .x) a z in (origin ≤ edge) × (edge + (z - a) ≤ origin + sourceWidth b)
+    source-columns t =
         let x = pointOf (b .from) .x in
         let p = first .source t in
-        let q = last .source t in
-        let to = edge-to back x a z (origin + sourceWidth b) (x-from (b .from)) z-small some (p .1) (q .1) in
+        let q = last .source t in (
+          edge-from back x a z origin some (p .0) (q .0),
+          edge-to back x a z (origin + sourceWidth b) (x-from (b .from)) z-small some (p .1) (q .1),
+        )
+
+    pub source-room : reads (b .paint) ≡ true → sourcePlace + (z - a) ≤ sourcePixels (b .paint) own
+    source-room t =
         let here = row .source t in
         omega (
           arith,
-          source-area (b .paint) (b .width) (b .height) own t (f .own-area),
-          room (sourceWidth b) (b .height) (sourceRow b r) (leftEdge back x a z) (z - a) (omega (arith, some)) (edge-from back x a z origin some (p .0) (q .0)) to
-              (omega (arith, here .0, here .1)),
+          source-area (b .paint) (b .width) (b .height) own (f .own-area),
+          room (sourceWidth b) (b .height) (sourceRow b r) (leftEdge back (pointOf (b .from) .x) a z) (z - a) (omega (arith, some)) (source-columns t .0)
+              (source-columns t .1) (omega (arith, here .0, here .1)),
         )
 
-    pub whole-row : (at from : ℕ) → at ≡ targetPlace → (hasPlace (b .paint) ≡ true → from ≡ sourcePlace) → (l : List ℕ)
+    pub whole-row : (at from : ℕ) → at ≡ targetPlace → (reads (b .paint) ≡ true → from ≡ sourcePlace) → (l : List ℕ)
         → rowOf (b .paint) back other at from (z - a) l ≡ inTurn visit m l
     whole-row at from p q l =
         ap (λ at. rowOf (b .paint) back other at from (z - a) l) p

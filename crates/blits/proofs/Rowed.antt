@@ -1,7 +1,7 @@
 -- The loops over rows: what they keep, with its laws for the start, a turn and the end.
 -- Assumes nothing.
-use mathlib.Core.Path.{_≡_, refl, ap, sym, _∙_}
-use mathlib.Core.Bool.{Bool, true, false, cond}
+use mathlib.Core.Path.{_≡_, refl, ap, _∙_}
+use mathlib.Core.Bool.{Bool, true, false}
 use mathlib.Core.List.{List}
 use mathlib.Core.Logic.{inl, inr}
 use Prim.Native.Nat.{ℕ, suc, _+_, _*_, _/_, _≤_, _<_}
@@ -9,16 +9,14 @@ use native.Mathlib.Nat.{mul-add, mul-one, mul-suc, mul-assoc, mul-le-mul-left}
 use native.Mathlib.Omega.{arith}
 use lib.ListN.{length}
 use Rattle.lemmas.specs.Turns.{inTurn}
-use Rattle.lemmas.proofs.Booleans.{by-cases, second-of, of-either}
 use Rattle.lemmas.proofs.Turns.{turn-none, turn-more, turn-end}
 use Rattle.geometry.specs.Blit.{away}
-use Rattle.blits.specs.Blits.{reads, isTiled, hasPlace, sourcePixels}
-use Rattle.blits.specs.Rows.{onward, rowOf, rowAt, RowsFit}
+use Rattle.blits.specs.Blits.{reads, sourcePixels}
+use Rattle.blits.specs.Rows.{rowOf, rowAt, RowsFit}
 use Rattle.blits.specs.Bits.{Apart}
 use Rattle.blits.specs.declared.Paint.{Paint}
-use Rattle.blits.specs.declared.Paint.the-variants.{Solid, Copied, Moved, Stippled, StippledWithin, Tiled}
-use Rattle.blits.proofs.Painted.{same-source-row, reads-place, reads-buffer}
-use Rattle.blits.proofs.Rounds.{round, round-none, round-more}
+use Rattle.blits.specs.declared.Paint.the-variants.{Solid, Copied, Moved, Stippled, StippledWithin}
+use Rattle.blits.proofs.Painted.{same-source-row}
 
 -- ---- places that are `width` apart
 
@@ -26,34 +24,12 @@ first-place : (up : Bool) (width at : ℕ) → at ≡ away up at (width * 0)
 first-place true width at = omega arith
 first-place false width at = omega arith
 
-on-from : (up : Bool) (at p q width : ℕ) → q ≡ p + width → away up (away up at p) width ≡ away up at q
+pub on-from : (up : Bool) (at p q width : ℕ) → q ≡ p + width → away up (away up at p) width ≡ away up at q
 on-from true at p q width h = omega arith
 on-from false at p q width h = omega arith
 
 next-place : (up : Bool) (width at k : ℕ) → away up (away up at (width * k)) width ≡ away up at (width * (k + 1))
 next-place up width at k = on-from up at (width * k) (width * (k + 1)) width (omega (arith, mul-add width k 1, mul-one width))
-
--- the same in the source, where a tile goes round
-none : (up : Bool) (d : ℕ) → d ≡ 0 → cond up (7 * d) d ≡ 0
-none true d e = omega arith
-none false d e = e
-
-more : (up : Bool) (p q d : ℕ) → q ≡ p + d → cond up (7 * q) q ≡ cond up (7 * p) p + cond up (7 * d) d
-more true p q d e = omega arith
-more false p q d e = e
-
-first-source : (paint : Paint) (up : Bool) (stride from : ℕ) → from ≡ onward paint up from (stride * 0)
-first-source paint up stride from =
-    of-either (λ x. from ≡ x) (isTiled paint) (round-none from (cond up (7 * (stride * 0)) (stride * 0)) (none up (stride * 0) (omega arith))) (first-place up stride from)
-
-next-source : (paint : Paint) (up : Bool) (stride from k : ℕ) → onward paint up (onward paint up from (stride * k)) stride ≡ onward paint up from (stride * (k + 1))
-next-source paint up stride from k =
-    by-cases (isTiled paint)
-    (λ t.
-    rw t
-    (round-more from (cond up (7 * (stride * k)) (stride * k)) (cond up (7 * (stride * (k + 1))) (stride * (k + 1))) (cond up (7 * stride) stride)
-    (more up (stride * k) (stride * (k + 1)) stride (omega (arith, mul-add stride k 1, mul-one stride)))))
-    (λ t. rw t (next-place up stride from k))
 
 -- the next place is no further than the rows reach
 up-to : (up : Bool) (width at p q : ℕ) → p + width ≤ q → away up at p + width ≤ at + q
@@ -73,7 +49,6 @@ sourceOf (Copied mix) other own = other
 sourceOf (Moved mix) other own = own
 sourceOf (Stippled s) other own = other
 sourceOf (StippledWithin s) other own = own
-sourceOf (Tiled mix) other own = other
 
 source-long : (paint : Paint) (other l t : List ℕ) → length t ≡ length l → length (sourceOf paint other t) ≡ length (sourceOf paint other l)
 source-long (Solid pen) other l t e = refl
@@ -81,17 +56,15 @@ source-long (Copied mix) other l t e = refl
 source-long (Moved mix) other l t e = e
 source-long (Stippled s) other l t e = refl
 source-long (StippledWithin s) other l t e = e
-source-long (Tiled mix) other l t e = refl
 
--- k rows of l are drawn, which left t; the next begins at `to`, and its source pixels, where their place is of any matter, at
--- `source`
+-- k rows of l are drawn, which left t; the next begins at `to`, and its source pixels, where pixels are read, at `source`
 pub record Rowed (paint : Paint) (back up : Bool) (width stride : ℕ) (other : List ℕ) (at from n rows : ℕ) (l t : List ℕ) (to source k : ℕ) : Type 0 where
   pub few : k ≤ rows
   pub long : length t ≡ length l
   pub fit : RowsFit up width at n rows (length l)
   pub source-fit : reads paint ≡ true → RowsFit up stride from n rows (sourcePixels paint (length (sourceOf paint other l)))
   pub here : to ≡ away up at (width * k)
-  pub there : hasPlace paint ≡ true → k < rows → source ≡ onward paint up from (stride * k)
+  pub there : reads paint ≡ true → k < rows → source ≡ away up from (stride * k)
   pub drawn : t ≡ inTurn (rowAt paint back up width stride other at from n) k l
 
 pub rowed-start : (paint : Paint) (back up : Bool) (width stride : ℕ) (other : List ℕ) (at from n rows : ℕ) (l : List ℕ) (source : ℕ)
@@ -104,7 +77,7 @@ rowed-start paint back up width stride other at from n rows l source f g e =
       fit = f;
       source-fit = g;
       here = first-place up width at;
-      there = λ r h. e ∙ first-source paint up stride from;
+      there = λ r h. e ∙ first-place up stride from;
       drawn = turn-none (rowAt paint back up width stride other at from n) l;
     }
 
@@ -114,29 +87,23 @@ module _ {paint : Paint} {back up : Bool} {width stride : ℕ} {other : List ℕ
   rowed-end h = turn-end (rowAt paint back up width stride other at from n) l k rows t (r .few) h (r .drawn)
 
   module _ (h : k < rows) where
-    -- where pixels are read
-    pub source-here : reads paint ≡ true → source ≡ away up from (stride * k)
-    source-here u =
-        let d = stride * k in
-        r .there (reads-place paint u) h ∙ sym (second-of (isTiled paint) (round from (cond up (7 * d) d)) (away up from d) (reads-buffer paint u))
-
     -- the row, and its source, end within their buffers
     pub row-inside : to + n ≤ length t
     row-inside = rw (r .here, r .long) (r .fit .within k h)
 
     pub source-inside : reads paint ≡ true → source + n ≤ sourcePixels paint (length (sourceOf paint other t))
-    source-inside u = rw (source-here u, source-long paint other l t (r .long)) (r .source-fit u .within k h)
+    source-inside u = rw (r .there u h, source-long paint other l t (r .long)) (r .source-fit u .within k h)
 
     -- the next row, and its source, are not too far
     pub row-far : to + width < 18446744073709551616
     row-far = rw (r .here) (omega (arith, next-most up width at k rows h, r .fit .far))
 
     pub source-far : reads paint ≡ true → source + stride < 18446744073709551616
-    source-far u = rw (source-here u) (omega (arith, next-most up stride from k rows h, r .source-fit u .far))
+    source-far u = rw (r .there u h) (omega (arith, next-most up stride from k rows h, r .source-fit u .far))
 
     -- one row more
     pub rowed-turn : (u : List ℕ) (to′ source′ : ℕ) → length u ≡ length t → to′ ≡ away up to width
-        → (hasPlace paint ≡ true → k + 1 < rows → source′ ≡ onward paint up source stride) → u ≡ rowOf paint back other to source n t
+        → (reads paint ≡ true → k + 1 < rows → source′ ≡ away up source stride) → u ≡ rowOf paint back other to source n t
         → Rowed paint back up width stride other at from n rows l u to′ source′ (k + 1)
     rowed-turn u to′ source′ e p q g =
         record {
@@ -145,11 +112,11 @@ module _ {paint : Paint} {back up : Bool} {width stride : ℕ} {other : List ℕ
           fit = r .fit;
           source-fit = r .source-fit;
           here = p ∙ ap (λ to. away up to width) (r .here) ∙ next-place up width at k;
-          there = λ s m. q s m ∙ ap (λ source. onward paint up source stride) (r .there s h) ∙ next-source paint up stride from k;
+          there = λ s m. q s m ∙ ap (λ source. away up source stride) (r .there s h) ∙ next-place up stride from k;
           drawn =
               turn-more (rowAt paint back up width stride other at from n) l k t u (r .drawn)
               (g ∙ ap (λ to. rowOf paint back other to source n t) (r .here)
-              ∙ same-source-row paint back other (away up at (width * k)) source (onward paint up from (stride * k)) n t (λ s. r .there s h));
+              ∙ same-source-row paint back other (away up at (width * k)) source (away up from (stride * k)) n t (λ s. r .there s h));
         }
 
 -- ---- rows of bits, by the byte that each begins in
@@ -182,14 +149,14 @@ module _ {paint : Paint} {back up : Bool} {width : ℕ} {other : List ℕ} {at f
   bits-here : byte ≡ away up (from / 8) (width * k)
   bits-here =
       in-bytes up from (width * k) byte first small (λ u. omega (arith, r .source-fit read .above u k h, mul-assoc 8 width k))
-      (source-here r h read ∙ ap (away up from) (mul-assoc 8 width k))
+      (r .there read h ∙ ap (away up from) (mul-assoc 8 width k))
 
   pub bits-next : (byte′ : ℕ) → byte′ ≡ away up byte width → k + 1 < rows → 8 * byte′ + first ≡ away up (8 * byte + first) (8 * width)
   bits-next byte′ e m =
       byte-next up width byte first byte′ small
       (λ u.
       left-above up from (8 * width * k) (8 * width * (k + 1)) (8 * width) (8 * byte + first) (omega (arith, mul-add (8 * width) k 1, mul-one (8 * width)))
-      (r .source-fit read .above u (k + 1) m) (source-here r h read) u)
+      (r .source-fit read .above u (k + 1) m) (r .there read h) u)
       e
 
   pub row-apart : Apart at (from / 8) n → Apart to byte n

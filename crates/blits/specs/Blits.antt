@@ -2,7 +2,7 @@
 use mathlib.Core.Path.{_≡_}
 use mathlib.Core.Bool.{Bool, true, false, not, cond, _&&_, _||_}
 use mathlib.Core.List.{List}
-use Prim.Native.Nat.{ℕ, _+_, _-_, _*_, _%_, _≤_, _<_}
+use Prim.Native.Nat.{ℕ, _+_, _*_, _≤_, _<_}
 use lib.Dec.{eqb, leb}
 use lib.ListN.{length, getD, set}
 use Rattle.lemmas.specs.Turns.{inTurn}
@@ -16,7 +16,7 @@ use Rattle.rows.specs.Rows.{mixed}
 use Rattle.stipples.specs.Stipples.{bitAt, stippled}
 use Rattle.blits.specs.declared.Blit.{Blit}
 use Rattle.blits.specs.declared.Paint.{Paint}
-use Rattle.blits.specs.declared.Paint.the-variants.{Solid, Copied, Moved, Stippled, StippledWithin, Tiled}
+use Rattle.blits.specs.declared.Paint.the-variants.{Solid, Copied, Moved, Stippled, StippledWithin}
 
 -- The new byte of a pixel whose source pixel, a byte or a bit, is at `from` of the other buffer, or of the same as it stands.
 abbrev pub painted : Paint → List ℕ → List ℕ → ℕ → ℕ → ℕ
@@ -25,7 +25,6 @@ painted (Copied mix) other own from old = mixed mix (getD other from 0) old
 painted (Moved mix) other own from old = mixed mix (getD own from 0) old
 painted (Stippled s) other own from old = stippled s (bitAt other from) old
 painted (StippledWithin s) other own from old = stippled s (bitAt own from) old
-painted (Tiled mix) other own from old = mixed mix (getD other from 0) old
 
 -- Whether pixels of a buffer are read.
 abbrev pub reads : Paint → Bool
@@ -34,28 +33,14 @@ reads (Copied mix) = true
 reads (Moved mix) = true
 reads (Stippled s) = true
 reads (StippledWithin s) = true
-reads (Tiled mix) = false
 
--- Whether a tile is drawn (02, R-7), and whether the place of the source pixel is of any matter.
-abbrev pub isTiled : Paint → Bool
-isTiled (Solid pen) = false
-isTiled (Copied mix) = false
-isTiled (Moved mix) = false
-isTiled (Stippled s) = false
-isTiled (StippledWithin s) = false
-isTiled (Tiled mix) = true
-
-abbrev pub hasPlace : Paint → Bool
-hasPlace paint = reads paint || isTiled paint
-
--- The source pixels in n bytes of a buffer: eight in each byte of bits. From a row of a tile to the next there are 32.
+-- The source pixels in n bytes of a buffer: eight in each byte of bits.
 abbrev pub sourcePixels : Paint → ℕ → ℕ
 sourcePixels (Solid pen) n = n
 sourcePixels (Copied mix) n = n
 sourcePixels (Moved mix) n = n
 sourcePixels (Stippled s) n = 8 * n
 sourcePixels (StippledWithin s) n = 8 * n
-sourcePixels (Tiled mix) n = 32
 
 abbrev pub sourceWidth : Blit → ℕ
 sourceWidth b = sourcePixels (b .paint) (b .width)
@@ -71,27 +56,13 @@ sourceAt b k = blitPoint (pointOf (b .from)) (b .size) (b .direction) k
 abbrev pub visibleAt : Blit → ℕ → Bool
 visibleAt b k = inWindow (b .window) (targetAt b k) && (not (reads (b .paint)) || inBuffer (sourceWidth b) (b .height) (sourceAt b k))
 
--- A tile is lent as 256 bytes, each of its eight rows of sixteen pixels twice: "Destination (x, y) then uses column x mod 16, row
--- y mod 8 of the tile."
-abbrev pub tilePlace : Point → ℕ
-tilePlace p = 32 * ((p .y - origin) % 8) + (p .x - origin) % 16
-
-abbrev pub RowsTwice : List ℕ → Type 0
-RowsTwice tile = (j i : ℕ) → j < 8 → i < 16 → getD tile (32 * j + 16 + i) 0 ≡ getD tile (32 * j + i) 0
-
-abbrev pub sourcePlace : Blit → ℕ → ℕ
-sourcePlace b k = cond (isTiled (b .paint)) (tilePlace (targetAt b k)) (placeIn (sourceWidth b) (sourceAt b k))
-
 unfoldable pub visited : Blit → List ℕ → ℕ → List ℕ → List ℕ
 visited b other k l =
     let at = placeIn (b .width) (targetAt b k) in
-    cond (visibleAt b k) (set l at (painted (b .paint) other l (sourcePlace b k) (getD l at 0))) l
+    let from = placeIn (sourceWidth b) (sourceAt b k) in
+    cond (visibleAt b k) (set l at (painted (b .paint) other l from (getD l at 0))) l
 
--- How many bytes are lent beside the buffer that is drawn on, of `own` bytes.
-abbrev pub lentSize : Paint → ℕ → ℕ
-lentSize paint own = cond (isTiled paint) 256 own
-
--- Whether both buffers have their size, with the window inside.
+-- Whether both buffers have the blit's size, with the window inside.
 abbrev pub windowInside : ℕ → ℕ → Window → Bool
 windowInside width height w =
     leb origin (w .left) && leb (w .right) (origin + width) && leb origin (w .top) && leb (w .bottom) (origin + height)
@@ -99,7 +70,7 @@ windowInside width height w =
 abbrev pub blitFits : Blit → ℕ → ℕ → ℕ → ℕ → Bool
 blitFits b first n other own =
     eqb own (b .width * b .height)
-    && eqb other (lentSize (b .paint) (b .width * b .height))
+    && eqb other (b .width * b .height)
     && windowInside (b .width) (b .height) (b .window)
     && leb (first + n) (blitCount (b .size))
 
@@ -108,25 +79,20 @@ unfoldable pub blitted : Blit → ℕ → ℕ → List ℕ → List ℕ → List
 blitted b first n other l =
     cond (blitFits b first n (length other) (length l)) (inTurn (λ i. visited b other (first + i)) n l) l
 
--- What a paint needs of what is lent.
-pub record Lent (paint : Paint) (other : List ℕ) (own : ℕ) : Type 0 where
-  pub size : length other ≡ lentSize paint own
-  pub twice : isTiled paint ≡ true → RowsTwice other
-
 -- What n visits from visit `first` on need.
-pub record Fitting (b : Blit) (first n : ℕ) (other : List ℕ) (own : ℕ) : Type 0 where
+pub record Fitting (b : Blit) (first n other own : ℕ) : Type 0 where
   pub own-area : own ≡ b .width * b .height
-  pub lent : Lent (b .paint) other own
+  pub other-area : other ≡ b .width * b .height
   pub inside : windowInside (b .width) (b .height) (b .window) ≡ true
   pub visits : first + n ≤ blitCount (b .size)
 
 -- What m visits of row r from column c on need.
-pub record RowFits (b : Blit) (r c m : ℕ) (other : List ℕ) (own : ℕ) : Type 0 where
+pub record RowFits (b : Blit) (r c m other own : ℕ) : Type 0 where
   pub size-small : b .size < 4294967296
   pub row-small : r < 65536
   pub columns : c + m ≤ widthOf (b .size)
   pub own-area : own ≡ b .width * b .height
-  pub lent : Lent (b .paint) other own
+  pub other-area : other ≡ b .width * b .height
   pub inside : windowInside (b .width) (b .height) (b .window) ≡ true
 
 -- r whole rows at the start of n visits from visit `first` on: none but from the first visit.

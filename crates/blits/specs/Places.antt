@@ -4,8 +4,6 @@ use Prim.Native.Nat.{ℕ, _+_, _-_, _*_}
 use Rattle.geometry.specs.Coordinates.{origin, pointOf}
 use Rattle.geometry.specs.Blit.{bottomToTop, rightToLeft, away}
 use Rattle.blits.specs.declared.Blit.{Blit}
-use Rattle.blits.specs.declared.Paint.{Paint}
-use Rattle.blits.specs.Blits.{isTiled, tilePlace}
 
 abbrev pub targetRow : Blit → ℕ → ℕ
 targetRow b r = away (bottomToTop (b .direction)) (pointOf (b .to) .y) r
@@ -20,11 +18,3 @@ leftEdge back x a z = cond back (x - (z - 1)) (x + a)
 abbrev pub placeAt : ℕ → ℕ → ℕ → ℕ → ℕ → ℕ → ℕ
 placeAt corner width direction a z r =
     (away (bottomToTop direction) (pointOf corner .y) r - origin) * width + (leftEdge (rightToLeft direction) (pointOf corner .x) a z - origin)
-
--- The same in a tile, by the destination's own x and y; and where the source pixels of these columns begin.
-abbrev pub tileAt : ℕ → ℕ → ℕ → ℕ → ℕ → ℕ
-tileAt corner direction a z r =
-    tilePlace (record { x = leftEdge (rightToLeft direction) (pointOf corner .x) a z; y = away (bottomToTop direction) (pointOf corner .y) r })
-
-abbrev pub startAt : Paint → ℕ → ℕ → ℕ → ℕ → ℕ → ℕ → ℕ → ℕ
-startAt paint to from width direction a z r = cond (isTiled paint) (tileAt to direction a z r) (placeAt from width direction a z r)

@@ -1,36 +1,27 @@
 -- Rows of pixels in the order of their visits, one after the other, and boxes of columns and rows.
 use mathlib.Core.Path.{_≡_}
-use mathlib.Core.Bool.{Bool, true, false, cond}
+use mathlib.Core.Bool.{Bool, true, false}
 use mathlib.Core.List.{List}
-use Prim.Native.Nat.{ℕ, _+_, _-_, _*_, _/_, _%_, _≤_, _<_}
+use Prim.Native.Nat.{ℕ, _+_, _-_, _*_, _≤_, _<_}
 use lib.ListN.{getD}
 use Rattle.lemmas.specs.Turns.{inTurn}
 use Rattle.lemmas.specs.Sweeps.{sweep}
 use Rattle.geometry.specs.Blit.{bottomToTop, rightToLeft, away}
 use Rattle.blits.specs.declared.Paint.{Paint}
 use Rattle.blits.specs.declared.ranges.Range.{Range}
-use Rattle.blits.specs.Blits.{painted, reads, isTiled, sourcePixels, Lent}
-use Rattle.blits.specs.Places.{placeAt, startAt}
-
--- A tile goes round: what stands for place x in the row of the place `from`, and the place d bytes below `from`, or above it,
--- which is 7 d below for whole rows.
-abbrev pub wrapped : Paint → ℕ → ℕ → ℕ
-wrapped paint from x = cond (isTiled paint) (from / 32 * 32 + x % 16) x
-
-abbrev pub onward : Paint → Bool → ℕ → ℕ → ℕ
-onward paint up from d =
-    cond (isTiled paint) (from / 256 * 256 + (from + cond up (7 * d) d) % 256) (away up from d)
+use Rattle.blits.specs.Blits.{painted, reads, sourcePixels}
+use Rattle.blits.specs.Places.{placeAt}
 
 -- n pixels of a row from `at` on, in the order of their visits.
 unfoldable pub rowOf : Paint → Bool → List ℕ → ℕ → ℕ → ℕ → List ℕ → List ℕ
 rowOf paint false other at from n l =
-    sweep (λ k. at + k) (λ k m. painted paint other m (wrapped paint from (from + k)) (getD m (at + k) 0)) n l
+    sweep (λ k. at + k) (λ k m. painted paint other m (from + k) (getD m (at + k) 0)) n l
 rowOf paint true other at from n l =
-    sweep (λ k. at + n - (k + 1)) (λ k m. painted paint other m (wrapped paint from (from + n - (k + 1))) (getD m (at + n - (k + 1)) 0)) n l
+    sweep (λ k. at + n - (k + 1)) (λ k m. painted paint other m (from + n - (k + 1)) (getD m (at + n - (k + 1)) 0)) n l
 
 -- Row k of those that are `width` apart, down or up, and `stride` apart in the source.
 abbrev pub rowAt : Paint → Bool → Bool → ℕ → ℕ → List ℕ → ℕ → ℕ → ℕ → ℕ → List ℕ → List ℕ
-rowAt paint back up width stride other at from n k l = rowOf paint back other (away up at (width * k)) (onward paint up from (stride * k)) n l
+rowAt paint back up width stride other at from n k l = rowOf paint back other (away up at (width * k)) (away up from (stride * k)) n l
 
 -- What rows of n pixels that are `width` apart need of a buffer of `own` pixels: none goes past it or above it, and no
 -- place is too far.
@@ -39,15 +30,9 @@ pub record RowsFit (up : Bool) (width at n rows own : ℕ) : Type 0 where
   pub above : up ≡ true → (k : ℕ) → k < rows → width * k ≤ at
   pub far : at + width * rows < 18446744073709551616
 
--- Where a row of a tile may begin: in the first of the two copies of a row.
-pub record TileFits (from : ℕ) : Type 0 where
-  pub inside : from < 256
-  pub first-half : from % 32 < 16
-
 -- What rows of a paint need of the buffer that is drawn on and of the other.
-pub record PaintFits (paint : Paint) (up : Bool) (width stride at from n rows : ℕ) (other : List ℕ) (own : ℕ) : Type 0 where
-  pub lent : Lent paint other own
-  pub tile : isTiled paint ≡ true → TileFits from
+pub record PaintFits (paint : Paint) (up : Bool) (width stride at from n rows other own : ℕ) : Type 0 where
+  pub same : other ≡ own
   pub apart : stride ≡ sourcePixels paint width
   pub target : RowsFit up width at n rows own
   pub source : reads paint ≡ true → RowsFit up stride from n rows (sourcePixels paint own)
@@ -57,14 +42,14 @@ unfoldable pub boxOf : Paint → ℕ → ℕ → ℕ → ℕ → Range → Range
 boxOf paint width to from direction across down other l =
     let target = placeAt to width direction (across .from) (across .past) (down .from) in
     let stride = sourcePixels paint width in
-    let source = startAt paint to from stride direction (across .from) (across .past) (down .from) in
+    let source = placeAt from stride direction (across .from) (across .past) (down .from) in
     inTurn (rowAt paint (rightToLeft direction) (bottomToTop direction) width stride other target source (across .past - across .from)) (down .past - down .from) l
 
 -- What a box needs of the buffer that is drawn on and of the other.
-pub record BoxFits (paint : Paint) (width to from direction : ℕ) (across down : Range) (other : List ℕ) (own : ℕ) : Type 0 where
+pub record BoxFits (paint : Paint) (width to from direction : ℕ) (across down : Range) (other own : ℕ) : Type 0 where
   pub across-small : across .past ≤ 65536
   pub down-small : down .past ≤ 65536
-  pub lent : Lent paint other own
+  pub same : other ≡ own
   pub target : across .from < across .past → down .from < down .past
       → RowsFit (bottomToTop direction) width (placeAt to width direction (across .from) (across .past) (down .from)) (across .past - across .from)
       (down .past - down .from) own

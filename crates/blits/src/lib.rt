@@ -1,26 +1,24 @@
 // Many pixels of a blit at once, row by row (document 01, Pixels): which of them are visible (ranges.rt), where they lie
 // (places.rt), and the loops over rows (row_loops.rt). Where the source is bits: its loops (bit_loops.rt), one row (bits.rt),
-// and the pixels of one byte (eights.rt).
+// and the pixels of one byte (eights.rt). Where it is a tile: tiled.rt.
 mod bit_loops;
 mod bits;
 mod eights;
 mod places;
 mod ranges;
 mod row_loops;
+mod tiled;
 
 ghost use mathlib.Core.Path.{_≡_};
-ghost use mathlib.Core.Bool.{true};
 ghost use Prim.Native.Nat.{_+_, _*_, _≤_, _<_};
 ghost use lib.ListN.{length};
 ghost use Rattle.geometry.specs.Blit.{widthOf, blitCount};
 ghost use Rattle.lemmas.specs.Turns.{inTurn};
-ghost use Rattle.blits.specs.Blits.{isTiled, RowsTwice, visited, lentSize, windowInside, blitFits, blitted, Fitting, RowFits, WholeRows};
+ghost use Rattle.blits.specs.Blits.{visited, windowInside, blitFits, blitted, Fitting, RowFits, WholeRows};
 ghost use Rattle.blits.specs.Ranges.{visibleOf};
 ghost use Rattle.blits.specs.Rows.{boxOf, BoxFits};
-use crate::places::is_tiled;
 use crate::places::place_at;
 use crate::places::source_width;
-use crate::places::start_at;
 use crate::ranges::Range;
 use crate::ranges::Visible;
 use crate::ranges::part;
@@ -34,16 +32,16 @@ use numbers::saturating_sub;
 use raster::Pen;
 use rows::Mix;
 use stipples::Stipple;
+pub use tiled::Tiling;
+pub use tiled::draw_tiled;
 
-// What a blit is painted from: a pen, bytes or bits of the other buffer, or those of the buffer that is drawn on; or a tile, which
-// is lent in place of the other buffer, each of its rows twice.
+// What a blit is painted from: a pen, bytes or bits of the other buffer, or those of the buffer that is drawn on.
 pub enum Paint {
     Solid(Pen),
     Copied(Mix),
     Moved(Mix),
     Stippled(Stipple),
     StippledWithin(Stipple),
-    Tiled(Mix),
 }
 
 // A blit from corner to corner, by register words, on buffers of width x height pixels. What it is painted with comes first: so
@@ -71,7 +69,7 @@ fn paint_box(
     buffer: &mut [u8],
     other: &[u8],
 )
-    requires { ⌜ BoxFits paint width to from direction across down (now other) (length (now buffer)) ⌝ }
+    requires { ⌜ BoxFits paint width to from direction across down (length (now other)) (length (now buffer)) ⌝ }
     ensures { λ _. ⌜ now (buffer .exit) ≡ boxOf paint width to from direction across down (now (other .entry)) (now (buffer .entry)) ⌝ }
 {
     let a = across.from;
@@ -86,7 +84,7 @@ fn paint_box(
     }
     let stride = source_width(paint, width);
     let target = place_at(to, width as usize, direction, a, z, top);
-    let source = start_at(paint, to, from, stride, direction, a, z, top);
+    let source = place_at(from, stride, direction, a, z, top);
     paint_rows(
         paint,
         direction / 2 % 2 == 1,
@@ -112,7 +110,7 @@ fn draw_row(
     buffer: &mut [u8],
     other: &[u8],
 )
-    requires { ⌜ RowFits b row column m (now other) (length (now buffer)) × (visible ≡ visibleOf b) ⌝ }
+    requires { ⌜ RowFits b row column m (length (now other)) (length (now buffer)) × (visible ≡ visibleOf b) ⌝ }
     ensures { λ _. ⌜ now (buffer .exit) ≡ inTurn (λ i. visited b (now (other .entry)) (widthOf (b .size) * row + column + i)) m (now (buffer .entry)) ⌝ }
 {
     let paint = b.paint;
@@ -133,7 +131,7 @@ fn draw_row(
 
 // n visits from visit `first` on, row by row.
 fn draw_rows(b: Blit, visible: Visible, first: usize, n: usize, buffer: &mut [u8], other: &[u8])
-    requires { ⌜ (0 < n) × Fitting b first n (now other) (length (now buffer)) × (visible ≡ visibleOf b) ⌝ }
+    requires { ⌜ (0 < n) × Fitting b first n (length (now other)) (length (now buffer)) × (visible ≡ visibleOf b) ⌝ }
     ensures { λ _. ⌜ now (buffer .exit) ≡ inTurn (λ i. visited b (now (other .entry)) (first + i)) n (now (buffer .entry)) ⌝ }
 {
     let across = (b.size / 65536) as usize;
@@ -151,7 +149,7 @@ fn draw_rows(b: Blit, visible: Visible, first: usize, n: usize, buffer: &mut [u8
 
 // Whole rows from the first on, at once.
 fn draw_whole(b: Blit, visible: Visible, rows: usize, buffer: &mut [u8], other: &[u8])
-    requires { ⌜ (0 < widthOf (b .size)) × Fitting b 0 (widthOf (b .size) * rows) (now other) (length (now buffer)) × (visible ≡ visibleOf b) ⌝ }
+    requires { ⌜ (0 < widthOf (b .size)) × Fitting b 0 (widthOf (b .size) * rows) (length (now other)) (length (now buffer)) × (visible ≡ visibleOf b) ⌝ }
     ensures { λ _. ⌜ now (buffer .exit) ≡ inTurn (visited b (now (other .entry))) (widthOf (b .size) * rows) (now (buffer .entry)) ⌝ }
 {
     let paint = b.paint;
@@ -186,7 +184,7 @@ fn whole_rows(size: u32, first: usize, n: usize) -> usize
 
 // n visits from visit `first` on: whole rows at once, and what is left row by row.
 fn draw_visits(b: Blit, first: usize, n: usize, buffer: &mut [u8], other: &[u8])
-    requires { ⌜ (0 < n) × Fitting b first n (now other) (length (now buffer)) ⌝ }
+    requires { ⌜ (0 < n) × Fitting b first n (length (now other)) (length (now buffer)) ⌝ }
     ensures { λ _. ⌜ now (buffer .exit) ≡ inTurn (λ i. visited b (now (other .entry)) (first + i)) n (now (buffer .entry)) ⌝ }
 {
     let visible = visible_of(b);
@@ -199,23 +197,15 @@ fn draw_visits(b: Blit, first: usize, n: usize, buffer: &mut [u8], other: &[u8])
     draw_rows(b, visible, first + done, n - done, buffer, other);
 }
 
-// How many bytes are lent beside a buffer of `own` bytes.
-fn lent_size(paint: Paint, own: usize) -> usize
-    ensures { λ r. ⌜ r ≡ lentSize paint own ⌝ }
-{
-    if is_tiled(paint) { 256 } else { own }
-}
-
-// Whether both buffers have their size, with the window inside, and the blit so many visits.
+// Whether both buffers have the blit's size, with the window inside, and the blit so many visits.
 fn blit_fits(b: Blit, first: usize, n: usize, other: usize, own: usize) -> bool
     ensures { λ r. ⌜ r ≡ blitFits b first n other own ⌝ }
 {
     let w = b.window;
-    let paint = b.paint;
     let area = (b.width as usize) * (b.height as usize);
     let count = blit_count(b.size);
     (own == area)
-        & (other == lent_size(paint, area))
+        & (other == area)
         & window_inside(b.width, b.height, w)
         & ((n <= count) & (first <= saturating_sub(count, n)))
 }
@@ -229,9 +219,8 @@ fn window_inside(width: u32, height: u32, w: Window) -> bool
         & (w.bottom <= ORIGIN + height as usize)
 }
 
-// n visits of a blit from visit `first` on, on `buffer`; `other` is the buffer that is not drawn on, or a tile.
+// n visits of a blit from visit `first` on, on `buffer`; `other` is the buffer that is not drawn on.
 pub fn draw_blit(b: Blit, first: usize, n: usize, buffer: &mut [u8], other: &[u8])
-    requires { ⌜ (isTiled (b .paint) ≡ true → RowsTwice (now other)) ⌝ }
     ensures { λ _. ⌜ now (buffer .exit) ≡ blitted b first n (now (other .entry)) (now (buffer .entry)) ⌝ }
 {
     if !blit_fits(b, first, n, other.len(), buffer.len()) {

@@ -3,8 +3,8 @@ ghost use mathlib.Core.Path.{_≡_};
 ghost use Prim.Native.Nat.{_+_, _-_, _*_, _≤_, _<_};
 ghost use Rattle.geometry.specs.Coordinates.{origin};
 ghost use Rattle.geometry.specs.Blit.{away};
-ghost use Rattle.blits.specs.Blits.{isTiled, sourcePixels};
-ghost use Rattle.blits.specs.Places.{leftEdge, placeAt, tileAt, startAt};
+ghost use Rattle.blits.specs.Blits.{sourcePixels};
+ghost use Rattle.blits.specs.Places.{leftEdge, placeAt};
 use crate::Paint;
 use geometry::ORIGIN;
 use geometry::point_of;
@@ -19,7 +19,7 @@ pub(crate) fn along(back: bool, c: usize, k: usize) -> usize
 }
 
 // The left edge of columns a to before z.
-fn left_edge(back: bool, x: usize, a: usize, z: usize) -> usize
+pub(crate) fn left_edge(back: bool, x: usize, a: usize, z: usize) -> usize
     requires { ⌜ (65536 ≤ x) × (x < 131072) × (a < z) × (z ≤ 65536) ⌝ }
     ensures { λ r. ⌜ r ≡ leftEdge back x a z ⌝ }
 {
@@ -62,51 +62,5 @@ pub(crate) fn source_width(paint: Paint, width: u32) -> usize
         Paint::Moved(_) => width as usize,
         Paint::Stippled(_) => 8 * (width as usize),
         Paint::StippledWithin(_) => 8 * (width as usize),
-        Paint::Tiled(_) => 32,
     }
-}
-
-// Whether a tile is drawn.
-pub(crate) fn is_tiled(paint: Paint) -> bool
-    ensures { λ r. ⌜ r ≡ isTiled paint ⌝ }
-{
-    match paint {
-        Paint::Solid(_) => false,
-        Paint::Copied(_) => false,
-        Paint::Moved(_) => false,
-        Paint::Stippled(_) => false,
-        Paint::StippledWithin(_) => false,
-        Paint::Tiled(_) => true,
-    }
-}
-
-// The place in a tile for columns a to before z of a row, in a blit to a corner.
-fn tile_at(corner: u32, direction: u32, a: usize, z: usize, row: usize) -> usize
-    requires { ⌜ (a < z) × (z ≤ 65536) × (row < 65536) ⌝ }
-    ensures { λ r. ⌜ r ≡ tileAt corner direction a z row ⌝ }
-{
-    let c = point_of(corner);
-    let x = left_edge(direction / 2 % 2 == 1, c.x, a, z);
-    let y = along(direction % 2 == 1, c.y, row);
-    32 * (saturating_sub(y, ORIGIN) % 8) + saturating_sub(x, ORIGIN) % 16
-}
-
-// Where the source pixels of columns a to before z of a row begin.
-pub(crate) fn start_at(
-    paint: Paint,
-    to: u32,
-    from: u32,
-    width: usize,
-    direction: u32,
-    a: usize,
-    z: usize,
-    row: usize,
-) -> usize
-    requires { ⌜ (width < 34359738368) × (a < z) × (z ≤ 65536) × (row < 65536) ⌝ }
-    ensures { λ r. ⌜ r ≡ startAt paint to from width direction a z row ⌝ }
-{
-    if is_tiled(paint) {
-        return tile_at(to, direction, a, z, row);
-    }
-    place_at(from, width, direction, a, z, row)
 }

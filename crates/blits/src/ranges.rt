@@ -25,7 +25,7 @@ pub struct Visible {
 }
 
 // The j whose pixel, j from c on or back, is at lo <= x < hi.
-fn range_of(back: bool, c: usize, lo: usize, hi: usize) -> Range
+pub(crate) fn range_of(back: bool, c: usize, lo: usize, hi: usize) -> Range
     requires { ⌜ c < 131072 ⌝ }
     ensures { λ r. ⌜ r ≡ rangeOf back c lo hi ⌝ }
 {
@@ -51,7 +51,6 @@ fn reads_pixels(paint: Paint) -> bool
         Paint::Moved(_) => true,
         Paint::Stippled(_) => true,
         Paint::StippledWithin(_) => true,
-        Paint::Tiled(_) => false,
     }
 }
 

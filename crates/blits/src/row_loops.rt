@@ -1,14 +1,13 @@
 // Rows of pixels that are `width` apart, down or up: a loop for each kind of paint, those by bits in bit_loops.rt.
 ghost use mathlib.Core.Path.{_≡_};
-ghost use mathlib.Core.Bool.{Bool, cond};
+ghost use mathlib.Core.Bool.{Bool};
 ghost use mathlib.Core.List.{List};
-ghost use Prim.Native.Nat.{ℕ, _+_, _*_, _≤_};
+ghost use Prim.Native.Nat.{ℕ, _+_, _≤_};
 ghost use lib.ListN.{length};
 ghost use Rattle.lemmas.specs.Turns.{inTurn};
 ghost use Rattle.rows.specs.Rows.{filledRow};
-ghost use Rattle.blits.specs.declared.Paint.the-variants.{Solid, Copied, Moved, Stippled, StippledWithin, Tiled};
-ghost use Rattle.blits.specs.Blits.{RowsTwice};
-ghost use Rattle.blits.specs.Rows.{rowOf, rowAt, RowsFit, TileFits, PaintFits};
+ghost use Rattle.blits.specs.declared.Paint.the-variants.{Solid, Copied, Moved, Stippled, StippledWithin};
+ghost use Rattle.blits.specs.Rows.{rowOf, rowAt, RowsFit, PaintFits};
 use crate::Paint;
 use crate::bit_loops::stipple_rows;
 use crate::bit_loops::stipple_within;
@@ -20,7 +19,6 @@ use rows::fill_narrow;
 use rows::fill_row;
 use rows::move_row;
 use rows::move_row_back;
-use rows::tile_row;
 use stipples::Stipple;
 
 // n pixels of a row from the same buffer.
@@ -114,40 +112,6 @@ fn move_rows(
     }
 }
 
-// From a row of a tile to the next, down or up, round its 256 bytes.
-fn tile_step(up: bool) -> usize
-    ensures { λ r. ⌜ r ≡ cond up (7 * 32) 32 ⌝ }
-{
-    if up { 224 } else { 32 }
-}
-
-// The same from a tile that is lent as `other`.
-fn tile_rows(
-    up: bool,
-    width: usize,
-    buffer: &mut [u8],
-    at: usize,
-    other: &[u8],
-    from: usize,
-    n: usize,
-    rows: usize,
-    mix: Mix,
-)
-    requires { ⌜ RowsFit up width at n rows (length (now buffer)) × TileFits from × (length (now other) ≡ 256) × RowsTwice (now other) ⌝ }
-    ensures { λ _. ⌜ ((back : Bool) → now (buffer .exit) ≡ inTurn (rowAt (Tiled mix) back up width 32 (now (other .entry)) at from n) rows (now (buffer .entry))) ⌝ }
-{
-    let step = tile_step(up);
-    let mut to = at;
-    let mut source = from;
-    let mut k: usize = 0;
-    while k < rows {
-        tile_row(buffer, to, n, other, source, mix);
-        to = along(up, to, width);
-        source = (source + step) % 256;
-        k += 1;
-    }
-}
-
 // The same, whatever the rows are painted from.
 pub(crate) fn paint_rows(
     paint: Paint,
@@ -162,7 +126,7 @@ pub(crate) fn paint_rows(
     n: usize,
     rows: usize,
 )
-    requires { ⌜ PaintFits paint up width stride at from n rows (now other) (length (now buffer)) ⌝ }
+    requires { ⌜ PaintFits paint up width stride at from n rows (length (now other)) (length (now buffer)) ⌝ }
     ensures { λ _. ⌜ now (buffer .exit) ≡ inTurn (rowAt paint back up width stride (now (other .entry)) at from n) rows (now (buffer .entry)) ⌝ }
 {
     match paint {
@@ -180,9 +144,6 @@ pub(crate) fn paint_rows(
         }
         Paint::StippledWithin(s) => {
             stipple_within(back, up, width, buffer, at, from, n, rows, s);
-        }
-        Paint::Tiled(mix) => {
-            tile_rows(up, width, buffer, at, other, from, n, rows, mix);
         }
     }
 }

@@ -8,12 +8,12 @@ use commands::Engine;
 use geometry::Extent;
 use lists::Span;
 use slots::Active;
-use tiles::no_fill;
 use slots::Sizes;
 use slots::Slot;
 use slots::post_status;
 use slots::store_into;
 use slots::write_into;
+use tiles::no_fill;
 
 impl Board {
     fn fresh(z: Sizes) -> Board

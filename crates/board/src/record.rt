@@ -2,10 +2,10 @@
 ghost use mathlib.Core.Path.{_≡_};
 ghost use Rattle.board.specs.Record.{orderOk, wellFormed};
 use commands::Engine;
-use tiles::Fill;
 use slots::Active;
 use slots::Sizes;
 use slots::Slot;
+use tiles::Fill;
 
 pub struct Board {
     pub sizes: Sizes,

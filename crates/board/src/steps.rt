@@ -6,8 +6,8 @@ use commands::Engine;
 use lists::Cursor;
 use lists::Span;
 use slots::Active;
-use tiles::Fill;
 use slots::Slot;
+use tiles::Fill;
 
 impl Board {
     // Once its last step is done a list leaves, and the pending list becomes active.

@@ -14,7 +14,7 @@ use Rattle.tiles.specs.declared.Fill.{Fill}
 use Rattle.tiles.specs.declared.Tile.{Tile}
 use Rattle.tiles.proofs.Pixels.{none-is-no-fill}
 use Rattle.commands.specs.Visits.{commandIn, shows}
-use Rattle.commands.specs.Hatching.{hatches, fillTaken}
+use Rattle.commands.specs.Hatching.{tiles, hatches, fillTaken}
 use Rattle.commands.specs.Steps.{advancedOf, visitBy, takenOf}
 use Rattle.commands.specs.Record.{holdsTile, fillOk, NoFillElsewhere, VisitsKeepFill, EntriesKeepFill}
 use Rattle.commands.specs.declared.Engine.{Engine}
@@ -59,7 +59,7 @@ pub entries-keep-fill : EntriesKeepFill
 unfolding fillOf
 entries-keep-fill extent s entry =
     let e = takenOf extent s entry .engine in
-    taken-by (e .«under_way») (commandIn e .apat) (wholeAt extent (e .registers .xy0)) _
+    taken-by (e .«under_way») (tiles (commandIn e)) (wholeAt extent (e .registers .xy0)) _
 
 -- after a visit, which ends the fill or leaves all that the test reads
 visited-by : (more apat whole : Bool) (f : Fill) → cond (true && apat && whole) (f .whole) (isNone f) ≡ true →
@@ -74,4 +74,4 @@ unfolding visitBy
 visits-keep-fill extent s under ok =
     let e = s .engine in
     rw (advanced-registers shows extent e)
-    (visited-by (advancedOf extent e .«under_way») (commandIn e .apat) (wholeAt extent (e .registers .xy0)) (s .fill) (rw under at ok))
+    (visited-by (advancedOf extent e .«under_way») (tiles (commandIn e)) (wholeAt extent (e .registers .xy0)) (s .fill) (rw under at ok))

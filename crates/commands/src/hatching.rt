@@ -18,7 +18,8 @@ impl Engine {
     {
         let g = self.registers;
         let c = command_of(g.cmd);
-        self.under_way & c.apat
+        let blit = c.is_blit();
+        self.under_way & (blit & c.apat)
     }
 
     // What an entry takes, which left this engine: the tile at XY0 in the source buffer, for a fill with one.

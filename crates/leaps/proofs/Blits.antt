@@ -33,6 +33,7 @@ use Rattle.commands.proofs.Tests.{count-blit, cell-blit, position-blit}
 use Rattle.sources.proofs.Reading.{source-solid, source-read}
 use Rattle.entries.specs.Fields.{isBlit}
 use Rattle.sources.specs.Sources.{keyed, readAt, copiedAt, copiedOf, byBit, bitOf, stippledAt, stippledOf, readOf}
+use Rattle.tiles.specs.Tiles.{noFill}
 use Rattle.commands.specs.Steps.{inked}
 use Rattle.leaps.specs.Leaps.{penIn, mixIn, stippleIn, fromOther, fromOwn, paintOf, blitIn, indexOf}
 use Rattle.commands.specs.declared.Engine.{Engine}
@@ -171,7 +172,8 @@ ink-read e s x false u i l h = kept (cond u s Nothing)
     kept Nothing = refl
 
 -- a visit's mark, by what the blit is painted from
-module _ (extent : Extent) (e : Engine) (k : ℕ) (blit : isBlit (commandIn e) ≡ true) (few : k < countOf extent e) (small : e .registers .key < 256) where
+module _ (extent : Extent) (e : Engine) (k : ℕ) (blit : isBlit (commandIn e) ≡ true) (few : k < countOf extent e) (small : e .registers .key < 256)
+    (plain : commandIn e .apat ≡ false) where
   abbrev at : ℕ
   at = placeIn (extent .width) (target extent e k blit few)
 
@@ -248,17 +250,17 @@ module _ (extent : Extent) (e : Engine) (k : ℕ) (blit : isBlit (commandIn e) �
 
   -- `to` is whether the virtual buffer is drawn on
   abbrev MarksOn : Bool → List ℕ → List ℕ → Type 0
-  MarksOn to own other = Marks (sourceAt extent e k (cond to other own) (cond to own other)) own other
+  MarksOn to own other = Marks (sourceAt extent e noFill k (cond to other own) (cond to own other)) own other
 
   -- from a buffer that is read
   source-marks : (from : Bool) (d v own other : List ℕ) (paint : Paint) → commandIn e .solid ≡ false → commandIn e .«from_virtual» ≡ from
       → paintOf e ≡ paint
       → inked e (readOf (commandIn e) (e .registers) extent (cellAt extent e k) (cond from v d)) (targetOf extent e k) own ≡ marked paint other own
-      → Marks (sourceAt extent e k d v) own other
+      → Marks (sourceAt extent e noFill k d v) own other
   source-marks from d v own other paint s f p h =
-      marks-as paint (sourceAt extent e k d v) own other p
+      marks-as paint (sourceAt extent e noFill k d v) own other p
       (ap (λ s. inked e s (targetOf extent e k) own)
-      (sym (source-read (commandIn e) (e .registers) (e .pattern) extent (cellAt extent e k) d v s blit from f)) ∙ h)
+      (sym (source-read (commandIn e) (e .registers) (e .pattern) extent noFill (cellAt extent e k) d v s blit plain from f)) ∙ h)
 
   read-marks-on : (to from : Bool) (own other : List ℕ) → commandIn e .solid ≡ false → commandIn e .«to_virtual» ≡ to
       → commandIn e .«from_virtual» ≡ from → MarksOn to own other
@@ -275,7 +277,7 @@ module _ (extent : Extent) (e : Engine) (k : ℕ) (blit : isBlit (commandIn e) �
       (λ s.
       let d = cond to other own in
       let w = cond to own other in
-      marks-as (Solid (penIn e (e .registers .fore))) (sourceAt extent e k d w) own other (rw s)
+      marks-as (Solid (penIn e (e .registers .fore))) (sourceAt extent e noFill k d w) own other (rw s)
       (ap (λ s. inked e s (targetOf extent e k) own)
-      (sym (source-solid (commandIn e) (e .registers) (e .pattern) extent (cellAt extent e k) d w s)) ∙ solid-marks own other))
+      (sym (source-solid (commandIn e) (e .registers) (e .pattern) extent noFill (cellAt extent e k) d w s)) ∙ solid-marks own other))
       (λ s. read-marks-on to (commandIn e .«from_virtual») own other s v refl)

@@ -5,7 +5,7 @@ use mathlib.Core.Bool.{Bool, true, false, not, cond, _&&_, _||_, false≢true}
 use mathlib.Core.List.{List}
 use Prim.Native.Nat.{ℕ, _+_, _-_, _*_, _≤_, _<_, min, max}
 use native.Mathlib.Omega.{arith}
-use borrow.Author.Tests.{eqb-true, eq-eqb, ltb-true, ltb-false, le-leb}
+use borrow.Author.Tests.{eqb-true, eq-eqb, ltb-true, ltb-false, le-leb, not-true}
 use lib.Dec.{eqb, ltb}
 use lib.ListN.{length}
 use Rattle.lemmas.proofs.Booleans.{by-cases, both, and-left, and-right, first-of, second-of, of-either}
@@ -31,12 +31,13 @@ use Rattle.registers.specs.declared.file.Registers.{Registers}
 use Rattle.strokes.specs.Strokes.{Dashed, dashed}
 use Rattle.commands.specs.Visits.{commandIn, windowIn, shows, countOf}
 use Rattle.entries.specs.Fields.{isBlit, isLine}
-use Rattle.commands.specs.Steps.{patternAfter, visitsOf}
+use Rattle.tiles.specs.Tiles.{noFill}
+use Rattle.commands.specs.Steps.{scene, patternAfter, visitsOf}
 use Rattle.commands.specs.declared.Engine.{Engine}
 use Rattle.commands.proofs.Bounds.{count-same}
 use Rattle.commands.proofs.Tests.{flag-is, count-blit}
 use Rattle.leaps.specs.Leaps.{penIn, mixIn, stippleIn, paintOf, blitIn, indexOf, stretchOf, movedTo, movedBy, canLeap, goesByRows}
-use Rattle.leaps.proofs.Visiting.{sceneOn, Marked, visits-are, Leaps, leaps-of}
+use Rattle.leaps.proofs.Visiting.{sceneOn, unfilled, Marked, visits-are, Leaps, leaps-of}
 use Rattle.leaps.proofs.Blits.{marks-on}
 use Rattle.geometry.specs.declared.Extent.{Extent}
 
@@ -51,7 +52,8 @@ same-blit : (extent : Extent) (e : Engine) (k : ℕ) → blitIn extent (movedTo 
 unfolding paintOf
 same-blit extent e k = refl
 
-module _ (extent : Extent) (e : Engine) (blit : isBlit (commandIn e) ≡ true) (small : e .registers .key < 256) (own other : List ℕ) where
+module _ (extent : Extent) (e : Engine) (blit : isBlit (commandIn e) ≡ true) (plain : commandIn e .apat ≡ false) (small : e .registers .key < 256)
+    (own other : List ℕ) where
   -- of all visits of the blit
   abbrev index : ℕ → ℕ
   index k = indexOf (windowIn extent (e .registers)) (e .registers) k
@@ -60,14 +62,14 @@ module _ (extent : Extent) (e : Engine) (blit : isBlit (commandIn e) ≡ true) (
   abbrev rowState : ℕ → Dashed
   rowState k = dashed (inTurn (λ i. visited (blitIn extent e) other (index (e .visited + i))) k own) (e .pattern)
 
-  rows-marked : (to : Bool) → commandIn e .«to_virtual» ≡ to → Marked extent e to other rowState
+  rows-marked : (to : Bool) → commandIn e .«to_virtual» ≡ to → Marked extent e noFill to other rowState
   unfolding inTurn
   rows-marked to v =
       record {
         buffers =
             λ k few.
             let f = movedTo e k (e .pattern) in
-            marks-on extent f (e .visited + k) blit (omega (arith, few, count-same shows extent f e refl refl)) small to (rowState k .buffer) other v
+            marks-on extent f (e .visited + k) blit (omega (arith, few, count-same shows extent f e refl refl)) small plain to (rowState k .buffer) other v
             ∙ ap (λ b. visited b other (index (e .visited + k)) (rowState k .buffer)) (same-blit extent e k);
         patterns = λ k few. pattern-stays (movedTo e k (e .pattern)) blit;
       }
@@ -93,6 +95,7 @@ window-inside extent false a b =
 pub record Goes (extent : Extent) (e : Engine) (n display virt : ℕ) : Type 0 where
   pub leaps : Leaps extent e n display virt
   pub blit : isBlit (commandIn e) ≡ true
+  pub plain : commandIn e .apat ≡ false
   pub key-small : e .registers .key < 256
 
 pub goes-of : (extent : Extent) (e : Engine) (n display virt : ℕ) → goesByRows extent e n display virt ≡ true → Goes extent e n display virt
@@ -100,12 +103,15 @@ unfolding goesByRows
 goes-of extent e n display virt h =
     let c1 = canLeap extent e n display virt in
     let c2 = isBlit (commandIn e) in
-    let c3 = ltb (e .registers .key) 256 in
-    let h2 = and-left (c1 && c2) c3 h in
+    let c3 = not (commandIn e .apat) in
+    let c4 = ltb (e .registers .key) 256 in
+    let h3 = and-left (c1 && c2 && c3) c4 h in
+    let h2 = and-left (c1 && c2) c3 h3 in
     record {
       leaps = leaps-of extent e n display virt (and-left c1 c2 h2);
       blit = and-right c1 c2 h2;
-      key-small = ltb-true (e .registers .key) 256 (and-right (c1 && c2) c3 h);
+      plain = not-true (commandIn e .apat) (and-right (c1 && c2) c3 h3);
+      key-small = ltb-true (e .registers .key) 256 (and-right (c1 && c2 && c3) c4 h);
     }
 
 -- the stretch of all visits that n visits from the next one on lie in
@@ -213,7 +219,7 @@ module _ (extent : Extent) (e : Engine) (n display virt : ℕ) (g : Goes extent 
       → commandIn e .«to_virtual» ≡ to → (m : List ℕ) →
       let r = stretchOf (windowIn extent (e .registers)) e (countOf extent e) n in
       m ≡ blitted (blitIn extent e) (r .from) (r .past - r .from) other own
-      → sceneOn f to m other ≡ visitsOf n extent (sceneOn e to own other)
+      → scene f noFill (cond to other m) (cond to m other) ≡ visitsOf n extent (scene e noFill (cond to other own) (cond to own other))
   unfolding inTurn
   rows-are to own other own-long other-long v m h =
       let b = blitIn extent e in
@@ -222,9 +228,11 @@ module _ (extent : Extent) (e : Engine) (n display virt : ℕ) (g : Goes extent 
       let drawn = stretch-draws extent e n (g .blit) (g .leaps .any) (g .leaps .few) other own in
       let same =
       h ∙ sym (blit-in b (r .from) (r .past - r .from) other own (fits extent e (r .from) (r .past - r .from) (length own) (length other) past own-long other-long)) ∙ drawn in
-      (λ i. sceneOn (moved i) to (same i) other)
-      ∙ sym (visits-are extent e to other (rowState extent e (g .blit) (g .key-small) own other) v (g .leaps .under-way) (g .leaps .some) refl
-      (rows-marked extent e (g .blit) (g .key-small) own other to v) n (g .leaps .few))
+      sym (unfilled f (cond to other m) (cond to m other))
+      ∙ (λ i. sceneOn noFill (moved i) to (same i) other)
+      ∙ sym (visits-are extent e noFill to other (rowState extent e (g .blit) (g .plain) (g .key-small) own other) v (g .leaps .under-way) (g .leaps .some) refl
+      (rows-marked extent e (g .blit) (g .plain) (g .key-small) own other to v) n (g .leaps .few))
+      ∙ ap (visitsOf n extent) (unfilled e (cond to other own) (cond to own other))
 
 -- what the row loops were given
 pub drawn-as : (extent : Extent) (e : Engine) (n : ℕ) (b : Blit) (c : ℕ) (s : Range) (k : ℕ) → b ≡ blitIn extent e → c ≡ countOf extent e

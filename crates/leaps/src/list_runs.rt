@@ -5,10 +5,12 @@ ghost use Prim.Native.Nat.{_<_};
 ghost use Rattle.lists.specs.Spans.{endOf};
 ghost use Rattle.commands.specs.Visits.{countOf};
 ghost use Rattle.commands.specs.Steps.{scene};
-ghost use Rattle.leaps.specs.ListRuns.{reached, GoesTo, runFrom, listRun, VisitsDone, EntriesTaken};
+ghost use Rattle.leaps.specs.ListRuns.{heldBy, reached, GoesTo, runFrom, listRun, BurstDone, EntriesTaken, Unheld, HatchDone};
+ghost use Rattle.leaps.specs.Leaps.{withTile};
+use crate::visits::Burst;
 use crate::visits::visit_counted;
+use crate::visits::visit_hatched;
 use commands::Engine;
-use entries::command_of;
 use entries::is_trigger;
 use geometry::Extent;
 use lists::Cursor;
@@ -20,32 +22,22 @@ use numbers::saturating_sub;
 use tiles::Fill;
 use tiles::no_fill;
 
-// The engine after a number of steps.
-pub struct Burst {
-    pub engine: Engine,
-    pub steps: u64,
-}
-
 // The pixels of the command under way, which visits `count`, as many as the budget allows; one where the count says that none
-// is left.
+// is left; and of a fill with a tile all or none.
 fn visit_up_to(
     e: Engine,
     extent: Extent,
-    fill: Fill,
     count: usize,
     budget: u64,
     display: &mut [u8],
     virt: &mut [u8],
 ) -> Burst
     requires { ⌜ (e .«under_way» ≡ true) × (0 < budget) × (count ≡ countOf extent e) ⌝ }
-    ensures { λ r. ⌜ VisitsDone budget extent (scene e (now (display .entry)) (now (virt .entry))) (r .steps) (scene (r .engine) (now (display .exit)) (now (virt .exit))) ⌝ }
+    ensures { λ r. ⌜ BurstDone budget extent e (now (display .entry)) (now (virt .entry)) r (now (display .exit)) (now (virt .exit)) ⌝ }
 {
     let left = max(1, saturating_sub(count, e.visited as usize));
     let n = min(budget as usize, left);
-    Burst {
-        engine: visit_counted(e, extent, fill, count, n, display, virt),
-        steps: n as u64,
-    }
+    visit_counted(e, extent, count, n, display, virt)
 }
 
 // Entries of a list, taken one after the other: the engine and the list after them, and the count of the command that is then
@@ -122,12 +114,93 @@ fn take_entries(start: Engine, extent: Extent, cursor: Cursor, budget: u64, list
 // Steps of a list: the engine and the list after them.
 pub struct Progress {
     pub engine: Engine,
+    pub cursor: Cursor,
+    pub steps: u64,
+}
+
+// The steps of a list whose end fits 32 bits: entries up to a command, and then its pixels. They end before a fill with a tile
+// that the budget cuts: no tile is held here.
+fn run_unheld(
+    start: Engine,
+    extent: Extent,
+    cursor: Cursor,
+    budget: u64,
+    list: &[u8],
+    display: &mut [u8],
+    virt: &mut [u8],
+) -> Progress
+    requires { ⌜ endOf (cursor .span) < 4294967296 ⌝ }
+    ensures { λ r. ⌜ Unheld (now (list .entry)) extent budget cursor (withTile extent start (now (display .entry)) (now (virt .entry))) r (now (display .exit)) (now (virt .exit)) ⌝ }
+{
+    let mut e = start;
+    let mut c = cursor;
+    let mut k: u64 = 0;
+    while k < budget {
+        let r = take_entries(e, extent, c, budget - k, list);
+        e = r.engine;
+        c = r.cursor;
+        k = k + r.steps;
+        if (budget <= k) | !e.under_way {
+            return Progress {
+                engine: e,
+                cursor: c,
+                steps: k,
+            };
+        }
+        let b = visit_up_to(e, extent, r.count, budget - k, display, virt);
+        e = b.engine;
+        if b.steps == 0 {
+            return Progress {
+                engine: e,
+                cursor: c,
+                steps: k,
+            };
+        }
+        k = k + b.steps;
+    }
+    Progress {
+        engine: e,
+        cursor: c,
+        steps: k,
+    }
+}
+
+// The pixels of a fill with a tile that is under way, as many as the budget allows; none where none is.
+fn hatch_up_to(
+    e: Engine,
+    extent: Extent,
+    fill: Fill,
+    budget: u64,
+    display: &mut [u8],
+    virt: &mut [u8],
+) -> Burst
+    ensures { λ r. ⌜ HatchDone budget extent (scene e fill (now (display .entry)) (now (virt .entry))) (r .steps) (r .engine) (now (display .exit)) (now (virt .exit)) ⌝ }
+{
+    if !e.hatches() | (budget == 0) {
+        return Burst {
+            engine: e,
+            steps: 0,
+        };
+    }
+    let count = e.count(extent);
+    let left = max(1, saturating_sub(count, e.visited as usize));
+    let n = min(budget as usize, left);
+    Burst {
+        engine: visit_hatched(e, extent, fill, count, n, display, virt),
+        steps: n as u64,
+    }
+}
+
+// The same with the fill after them.
+pub struct Held {
+    pub engine: Engine,
     pub fill: Fill,
     pub cursor: Cursor,
     pub steps: u64,
 }
 
-// The steps of a list whose end fits 32 bits: entries up to a command, and then its pixels.
+// The steps of a list: a fill that is held from the run before, then those with none held, and last a fill that the budget
+// cuts.
 fn run_from(
     start: Engine,
     held: Fill,
@@ -137,54 +210,32 @@ fn run_from(
     list: &[u8],
     display: &mut [u8],
     virt: &mut [u8],
-) -> Progress
+) -> Held
     requires { ⌜ endOf (cursor .span) < 4294967296 ⌝ }
-    ensures { λ r. ⌜ GoesTo r (now (display .exit)) (now (virt .exit)) (runFrom budget (now (list .entry)) extent cursor (scene start (now (display .entry)) (now (virt .entry)))) ⌝ }
+    ensures { λ r. ⌜ GoesTo r (now (display .exit)) (now (virt .exit)) (runFrom budget (now (list .entry)) extent cursor (scene start (heldBy start held) (now (display .entry)) (now (virt .entry)))) ⌝ }
 {
-    let mut e = start;
-    let mut c = cursor;
-    let mut k: u64 = 0;
-    let mut f = held;
-    let mut holds = true;
-    while k < budget {
-        let r = take_entries(e, extent, c, budget - k, list);
-        e = r.engine;
-        c = r.cursor;
-        k = k + r.steps;
-        if 0 < r.steps {
-            let g = e.registers;
-            let x = command_of(g.cmd);
-            if e.under_way & x.apat {
-                f = e.fill_taken(extent, display, virt);
-                holds = true;
-            } else {
-                if holds {
-                    f = no_fill();
-                    holds = false;
-                }
-            }
-        }
-        if (budget <= k) | !e.under_way {
-            return Progress {
-                engine: e,
-                fill: f,
-                cursor: c,
-                steps: k,
-            };
-        }
-        let b = visit_up_to(e, extent, f, r.count, budget - k, display, virt);
-        e = b.engine;
-        k = k + b.steps;
-        if holds & !e.under_way {
-            f = no_fill();
-            holds = false;
-        }
+    let h = hatch_up_to(start, extent, held, budget, display, virt);
+    let e = h.engine;
+    if e.hatches() {
+        return Held {
+            engine: e,
+            fill: held,
+            cursor,
+            steps: h.steps,
+        };
     }
-    Progress {
-        engine: e,
-        fill: f,
+    let r = run_unheld(e, extent, cursor, budget - h.steps, list, display, virt);
+    let f = r.engine;
+    let c = r.cursor;
+    let k = h.steps + r.steps;
+    let fill = f.fill_taken(extent, display, virt);
+    let b = hatch_up_to(f, extent, fill, budget - k, display, virt);
+    let g = b.engine;
+    Held {
+        engine: g,
+        fill: g.fill_after(fill),
         cursor: c,
-        steps: k,
+        steps: k + b.steps,
     }
 }
 
@@ -195,6 +246,16 @@ pub struct ListRun {
     pub cursor: Cursor,
     pub steps: u64,
     pub broken: bool,
+}
+
+// What is held with an engine: a fill's tile, and nothing else.
+fn held_by(e: Engine, fill: Fill) -> Fill
+    ensures { λ r. ⌜ r ≡ heldBy e fill ⌝ }
+{
+    if e.hatches() {
+        return fill;
+    }
+    no_fill()
 }
 
 // As many steps of a list as the budget allows, up to its end or its first illegal entry.
@@ -208,13 +269,13 @@ pub fn run_list(
     display: &mut [u8],
     virt: &mut [u8],
 ) -> ListRun
-    ensures { λ r. ⌜ reached r (now (display .exit)) (now (virt .exit)) ≡ listRun budget (now (list .entry)) extent cursor (scene start (now (display .entry)) (now (virt .entry))) ⌝ }
+    ensures { λ r. ⌜ reached r (now (display .exit)) (now (virt .exit)) ≡ listRun budget (now (list .entry)) extent cursor (scene start (heldBy start held) (now (display .entry)) (now (virt .entry))) ⌝ }
 {
     let s = cursor.span;
     if 4294967295 < s.end() {
         return ListRun {
             engine: start,
-            fill: held,
+            fill: held_by(start, held),
             cursor,
             steps: 0,
             broken: false,
@@ -222,12 +283,12 @@ pub fn run_list(
     }
     let r = run_from(start, held, extent, cursor, budget, list, display, virt);
     let e = r.engine;
-    let f = r.fill;
     let c = r.cursor;
+    let fill = r.fill;
     let ended = c.ended(e.under_way);
     ListRun {
         engine: e,
-        fill: f,
+        fill,
         cursor: c,
         steps: r.steps,
         broken: (r.steps < budget) & !ended,

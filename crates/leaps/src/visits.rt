@@ -3,10 +3,11 @@ ghost use mathlib.Core.Path.{_≡_};
 ghost use mathlib.Core.Bool.{true, false};
 ghost use Prim.Native.Nat.{_+_, _≤_, _<_};
 ghost use lib.ListN.{length};
+ghost use Rattle.tiles.specs.Tiles.{noFill};
 ghost use Rattle.commands.specs.Visits.{commandIn, countOf};
 ghost use Rattle.commands.specs.Steps.{scene, visitsOf};
 ghost use Rattle.strokes.specs.Strokes.{dashed};
-ghost use Rattle.leaps.specs.Leaps.{mixIn, stippleIn, paintOf, blitIn, stretchOf, penIn, strokeIn, movedBy, canLeap, goesByRows, goesByStroke};
+ghost use Rattle.leaps.specs.Leaps.{mixIn, stippleIn, paintOf, blitIn, stretchOf, penIn, strokeIn, movedBy, canLeap, goesByRows, goesByStroke, Visited, leftIn, Bursts};
 use blits::Blit;
 use blits::Paint;
 use blits::draw_blit;
@@ -29,7 +30,7 @@ use strokes::Dashes;
 use strokes::draw_dashes;
 use strokes::draw_line;
 use tiles::Fill;
-use tiles::doubled;
+use tiles::no_fill;
 
 fn mix(e: Engine) -> Mix
     ensures { λ r. ⌜ r ≡ mixIn e ⌝ }
@@ -72,9 +73,6 @@ fn paint(e: Engine) -> Paint
     let c = command_of(g.cmd);
     if c.solid {
         return Paint::Solid(pen(e, g.fore));
-    }
-    if c.apat {
-        return Paint::Tiled(mix(e));
     }
     let within = (c.to_virtual & c.from_virtual) | (!c.to_virtual & !c.from_virtual);
     if c.stpl {
@@ -165,14 +163,13 @@ fn stretch(e: Engine, window: Window, count: usize, n: usize) -> Range
 fn visit_rows(
     e: Engine,
     extent: Extent,
-    fill: Fill,
     count: usize,
     n: usize,
     display: &mut [u8],
     virt: &mut [u8],
 ) -> Engine
     requires { ⌜ (goesByRows extent e n (length (now display)) (length (now virt)) ≡ true) × (count ≡ countOf extent e) ⌝ }
-    ensures { λ r. ⌜ scene r (now (display .exit)) (now (virt .exit)) ≡ visitsOf n extent (scene e (now (display .entry)) (now (virt .entry))) ⌝ }
+    ensures { λ r. ⌜ scene r noFill (now (display .exit)) (now (virt .exit)) ≡ visitsOf n extent (scene e noFill (now (display .entry)) (now (virt .entry))) ⌝ }
 {
     let g = e.registers;
     let c = command_of(g.cmd);
@@ -181,18 +178,6 @@ fn visit_rows(
     let s = stretch(e, b.window, count, n);
     let first = s.from;
     let m = saturating_sub(s.past, s.from);
-    if c.apat & !c.solid {
-        if fill.whole {
-            let tile = fill.tile;
-            let wide = doubled(tile);
-            if c.to_virtual {
-                draw_blit(b, first, m, virt, &wide);
-            } else {
-                draw_blit(b, first, m, display, &wide);
-            }
-        }
-        return after;
-    }
     if c.to_virtual {
         draw_blit(b, first, m, virt, display);
     } else {
@@ -250,7 +235,7 @@ fn visit_stroke(
     virt: &mut [u8],
 ) -> Engine
     requires { ⌜ (goesByStroke extent e n (length (now display)) (length (now virt)) ≡ true) × (count ≡ countOf extent e) ⌝ }
-    ensures { λ r. ⌜ scene r (now (display .exit)) (now (virt .exit)) ≡ visitsOf n extent (scene e (now (display .entry)) (now (virt .entry))) ⌝ }
+    ensures { λ r. ⌜ scene r noFill (now (display .exit)) (now (virt .exit)) ≡ visitsOf n extent (scene e noFill (now (display .entry)) (now (virt .entry))) ⌝ }
 {
     let g = e.registers;
     let c = command_of(g.cmd);
@@ -279,19 +264,21 @@ fn visit_each(
     display: &mut [u8],
     virt: &mut [u8],
 ) -> Engine
-    ensures { λ r. ⌜ scene r (now (display .exit)) (now (virt .exit)) ≡ visitsOf n extent (scene start (now (display .entry)) (now (virt .entry))) ⌝ }
+    ensures { λ r. ⌜ Visited n extent (scene start fill (now (display .entry)) (now (virt .entry))) r (now (display .exit)) (now (virt .exit)) ⌝ }
 {
     let mut e = start;
+    let mut f = fill;
     let mut k: usize = 0;
     while k < n {
-        e = e.visit(extent, fill, display, virt);
+        e = e.visit(extent, f, display, virt);
+        f = e.fill_after(f);
         k += 1;
     }
     e
 }
 
-// n pixels visited, of a command that visits `count`.
-pub(crate) fn visit_counted(
+// n pixels of a fill with a tile.
+pub(crate) fn visit_hatched(
     e: Engine,
     extent: Extent,
     fill: Fill,
@@ -301,18 +288,78 @@ pub(crate) fn visit_counted(
     virt: &mut [u8],
 ) -> Engine
     requires { ⌜ count ≡ countOf extent e ⌝ }
-    ensures { λ r. ⌜ scene r (now (display .exit)) (now (virt .exit)) ≡ visitsOf n extent (scene e (now (display .entry)) (now (virt .entry))) ⌝ }
+    ensures { λ r. ⌜ Visited n extent (scene e fill (now (display .entry)) (now (virt .entry))) r (now (display .exit)) (now (virt .exit)) ⌝ }
+{
+    visit_each(e, extent, fill, n, display, virt)
+}
+
+// The engine after a number of steps.
+pub struct Burst {
+    pub engine: Engine,
+    pub steps: u64,
+}
+
+// n pixels visited of a command that goes neither by rows nor by its error term: all that are left of a fill with a tile, which
+// is then held nowhere; none where n are not all.
+fn visit_rest(
+    e: Engine,
+    extent: Extent,
+    count: usize,
+    n: usize,
+    display: &mut [u8],
+    virt: &mut [u8],
+) -> Burst
+    requires { ⌜ (e .«under_way» ≡ true) × (0 < n) × (n ≤ leftIn extent e) × (count ≡ countOf extent e) ⌝ }
+    ensures { λ r. ⌜ Bursts n extent e (now (display .entry)) (now (virt .entry)) r (now (display .exit)) (now (virt .exit)) ⌝ }
+{
+    if !e.hatches() {
+        let none = no_fill();
+        return Burst {
+            engine: visit_each(e, extent, none, n, display, virt),
+            steps: n as u64,
+        };
+    }
+    if n < saturating_sub(count, e.visited as usize) {
+        return Burst {
+            engine: e,
+            steps: 0,
+        };
+    }
+    let fill = e.fill_taken(extent, display, virt);
+    Burst {
+        engine: visit_hatched(e, extent, fill, count, n, display, virt),
+        steps: n as u64,
+    }
+}
+
+// n pixels visited, of a command that visits `count`.
+pub(crate) fn visit_counted(
+    e: Engine,
+    extent: Extent,
+    count: usize,
+    n: usize,
+    display: &mut [u8],
+    virt: &mut [u8],
+) -> Burst
+    requires { ⌜ (e .«under_way» ≡ true) × (0 < n) × (n ≤ leftIn extent e) × (count ≡ countOf extent e) ⌝ }
+    ensures { λ r. ⌜ Bursts n extent e (now (display .entry)) (now (virt .entry)) r (now (display .exit)) (now (virt .exit)) ⌝ }
 {
     let g = e.registers;
     let c = command_of(g.cmd);
     let leaps = can_leap(e, extent, count, n, display.len(), virt.len());
     let blit = c.is_blit();
-    if leaps & blit & (g.key < 256) {
-        return visit_rows(e, extent, fill, count, n, display, virt);
+    if leaps & blit & !c.apat & (g.key < 256) {
+        return Burst {
+            engine: visit_rows(e, extent, count, n, display, virt),
+            steps: n as u64,
+        };
     }
     let line = c.is_line();
     if leaps & line & (1 < count) & (extent.height <= 65536) {
-        return visit_stroke(e, extent, count, n, display, virt);
+        return Burst {
+            engine: visit_stroke(e, extent, count, n, display, virt),
+            steps: n as u64,
+        };
     }
-    visit_each(e, extent, fill, n, display, virt)
+    visit_rest(e, extent, count, n, display, virt)
 }

@@ -51,7 +51,11 @@ fn flag(b: bool) -> u32
 pub(crate) fn flags_ok(w: [u32; WORDS]) -> bool
     ensures { λ r. ⌜ r ≡ flagsOk w ⌝ }
 {
-    (w[ACTIVE] < 2) & (w[PENDING] < 2) & (w[COMMAND] < 2) & (w[WHOLE] < 2) & ((w[WHOLE] == 1) | blank(w))
+    (w[ACTIVE] < 2)
+        & (w[PENDING] < 2)
+        & (w[COMMAND] < 2)
+        & (w[WHOLE] < 2)
+        & ((w[WHOLE] == 1) | blank(w))
 }
 
 fn blank(w: [u32; WORDS]) -> bool {
@@ -64,18 +68,15 @@ fn blank(w: [u32; WORDS]) -> bool {
     sum == 0
 }
 
-fn part(x: u32, m: u32) -> u8
-{
+fn part(x: u32, m: u32) -> u8 {
     ((x >> (8 * m)) % 256) as u8
 }
 
-fn word(a: u8, b: u8, c: u8, d: u8) -> u32
-{
+fn word(a: u8, b: u8, c: u8, d: u8) -> u32 {
     a as u32 + 256 * (b as u32) + 65536 * (c as u32) + 16777216 * (d as u32)
 }
 
-fn row_in(w: [u32; WORDS], j: usize) -> Row
-{
+fn row_in(w: [u32; WORDS], j: usize) -> Row {
     let mut pixels: [u8; 16] = [0; 16];
     let mut i: usize = 0;
     while i < 16 {
@@ -85,8 +86,7 @@ fn row_in(w: [u32; WORDS], j: usize) -> Row
     Row { pixels }
 }
 
-fn fill_in(w: [u32; WORDS]) -> Fill
-{
+fn fill_in(w: [u32; WORDS]) -> Fill {
     if w[WHOLE] == 0 {
         return no_fill();
     }
@@ -101,8 +101,7 @@ fn fill_in(w: [u32; WORDS]) -> Fill
     Fill { whole: true, tile }
 }
 
-fn put_fill(w: [u32; WORDS], f: Fill) -> [u32; WORDS]
-{
+fn put_fill(w: [u32; WORDS], f: Fill) -> [u32; WORDS] {
     let mut v = w;
     if !f.whole {
         return v;
@@ -120,7 +119,6 @@ fn put_fill(w: [u32; WORDS], f: Fill) -> [u32; WORDS]
     }
     v
 }
-
 
 fn sizes_in(w: [u32; WORDS]) -> Sizes
     ensures { λ r. ⌜ r ≡ sizesIn w ⌝ }

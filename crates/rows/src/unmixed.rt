@@ -55,7 +55,7 @@ fn move_at_once(buffer: &mut [u8], at: usize, from: usize, n: usize)
 }
 
 // Rows of 8 to 16 pixels: the first 8 and the last 8, all read before the first of them is written.
-pub(crate) fn copy_short(buffer: &mut [u8], at: usize, source: &[u8], from: usize, n: usize)
+fn copy_short(buffer: &mut [u8], at: usize, source: &[u8], from: usize, n: usize)
     requires { ⌜ (8 ≤ n) × (n ≤ 16) × (at + n ≤ length (now buffer)) × (from + n ≤ length (now source)) ⌝ }
     ensures { λ _. ⌜ now (buffer .exit) ≡ copied (λ s d. s) n (now (buffer .entry)) at (now (source .entry)) from ⌝ }
 {

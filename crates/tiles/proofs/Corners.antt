@@ -23,6 +23,12 @@ product-small a b h l =
     let most : a * b ≤ 131071 * 4294967295 = mul-le-mul {n₁ = a} {m₁ = b} {n₂ = 131071} {m₂ = 4294967295} (omega arith) (omega arith) in
     omega arith
 
+-- where eight rows of sixteen are in a buffer, each is
+pub row-inside : (at width j own : ℕ) → j < 8 → at + 7 * width + 16 ≤ own → at + j * width + 16 ≤ own
+row-inside at width j own h l =
+    let most : j * width ≤ 7 * width = mul-le-mul {n₁ = j} {m₁ = width} {n₂ = 7} {m₂ = width} (omega arith) (omega arith) in
+    omega arith
+
 -- what the four tests say together
 pub record Fits (extent : Extent) (p : Point) : Type 0 where
   pub left : origin ≤ p .x

@@ -4,15 +4,15 @@ use mathlib.Core.Path.{_≡_, ap, _∙_}
 use mathlib.Core.List.{List}
 use Prim.Native.Nat.{ℕ, _+_, _-_, _*_, _/_, _%_, _<_}
 use native.Mathlib.Omega.{arith}
-use borrow.Author.Tests.{ltb-true, ltb-false}
-use lib.Dec.{ltb}
+use borrow.Author.Tests.{ltb-true, ltb-false, eqb-true}
+use lib.Dec.{eqb, ltb}
 use lib.ListN.{length, getD}
 use Rattle.lemmas.specs.Sweeps.{sweep}
 use Rattle.lemmas.proofs.Booleans.{by-cases}
 use Rattle.lemmas.proofs.Numbers.{map-below-at}
 use Rattle.lemmas.proofs.Filling.{Filled}
 use Rattle.lemmas.proofs.Sweeps.{sweep-length, sweep-stays, sweep-wrote}
-use Rattle.tiles.specs.Tiles.{noRow, pixelOf, RowsTwice}
+use Rattle.tiles.specs.Tiles.{noRow, pixelOf, doubledOf, twiceIn, RowsTwice}
 use Rattle.tiles.specs.declared.Tile.{Tile}
 
 -- byte i of the doubled tile
@@ -54,6 +54,13 @@ row-twice t j l m r small x em er =
     rw end at
     (half-more t j (32 * j + 16) m r small (omega arith) (omega arith)
     (half-more t j (32 * j) l m small (omega arith) (omega arith) x em) er)
+
+-- a memory of 256 bytes, and one of another size
+pub twice-all : (t : Tile) (l m : List ℕ) → length l ≡ 256 → m ≡ doubledOf t → m ≡ twiceIn t l
+twice-all t l m e d = rw e d
+
+pub twice-not : (t : Tile) (l : List ℕ) → (length l ≡ 256 → ⊥) → l ≡ twiceIn t l
+twice-not t l o = by-cases (eqb (length l) 256) (λ u. absurd (o (eqb-true (length l) 256 u))) (λ u. rw u)
 
 pub rows-twice : RowsTwice
 rows-twice t x y =

@@ -72,6 +72,10 @@ isNone f = not (f .whole) && tileBlank (f .tile)
 abbrev pub doubledOf : Tile → List ℕ
 doubledOf t = map (λ i. pixelOf t i (i / 32)) (below 256)
 
+-- Those put into a memory of that size.
+abbrev pub twiceIn : Tile → List ℕ → List ℕ
+twiceIn t bytes = cond (eqb (length bytes) 256) (doubledOf t) bytes
+
 -- What holds of them; proved in proofs/Corners.antt. A tile is whole exactly where each of its pixels is in the buffer.
 abbrev pub inTile : ℕ → ℕ → ℕ → Point
 inTile corner i j = record { x = pointOf corner .x + i; y = pointOf corner .y + j }

@@ -6,7 +6,7 @@ ghost use mathlib.Core.Path.{_≡_};
 ghost use Prim.Native.Nat.{_+_, _≤_};
 ghost use lib.ListN.{length, getD};
 ghost use Rattle.lemmas.specs.Sweeps.{sweep};
-ghost use Rattle.tiles.specs.Tiles.{pixelOf, doubledOf, noFill, rowBlank, tileBlank, isNone};
+ghost use Rattle.tiles.specs.Tiles.{pixelOf, twiceIn, noFill, rowBlank, tileBlank, isNone};
 pub use taking::tile_at;
 pub use taking::whole_at;
 
@@ -55,20 +55,21 @@ fn put_row(bytes: &mut [u8], at: usize, row: [u8; 16])
     }
 }
 
-// Each row twice: sixteen bytes from byte 32 y + x on are row y from column x on, and round.
-pub fn doubled(tile: Tile) -> [u8; 256]
-    ensures { λ r. ⌜ r ≡ doubledOf tile ⌝ }
+// Each row twice, in 256 bytes: sixteen from byte 32 y + x on are row y from column x on, and round.
+pub fn put_twice(tile: Tile, bytes: &mut [u8])
+    ensures { λ _. ⌜ now (bytes .exit) ≡ twiceIn tile (now (bytes .entry)) ⌝ }
 {
-    let mut bytes: [u8; 256] = [0; 256];
+    if bytes.len() != 256 {
+        return;
+    }
     let mut j: usize = 0;
     while j < 8 {
         let row = tile.rows[j];
         let pixels = row.pixels;
-        put_row(&mut bytes, 32 * j, pixels);
-        put_row(&mut bytes, 32 * j + 16, pixels);
+        put_row(bytes, 32 * j, pixels);
+        put_row(bytes, 32 * j + 16, pixels);
         j += 1;
     }
-    bytes
 }
 
 fn row_blank(row: Row) -> bool

@@ -1,6 +1,6 @@
 // A tile out of a buffer.
 ghost use mathlib.Core.Path.{_≡_};
-ghost use Prim.Native.Nat.{_-_, _<_, min};
+ghost use Prim.Native.Nat.{_+_, _-_, _*_, _≤_, _<_, min};
 ghost use lib.ListN.{length};
 ghost use Rattle.tiles.specs.Tiles.{bytesOf, rowOf, tileOf, wholeAt, fillOf};
 use crate::Fill;
@@ -27,15 +27,22 @@ fn bytes_at(buffer: &[u8], at: usize, n: usize) -> [u8; 16]
     bytes
 }
 
-// With sixteen written out the loop is one load and one store.
+// A row that the buffer has: with sixteen written out the loop is one load and one store.
+fn row_within(buffer: &[u8], at: usize) -> Row
+    requires { ⌜ at + 16 ≤ length (now buffer) ⌝ }
+    ensures { λ r. ⌜ r ≡ rowOf (now (buffer .entry)) at ⌝ }
+{
+    Row {
+        pixels: bytes_at(buffer, at, 16),
+    }
+}
+
 fn row_at(buffer: &[u8], at: usize) -> Row
     ensures { λ r. ⌜ r ≡ rowOf (now (buffer .entry)) at ⌝ }
 {
     let n = min(16, saturating_sub(buffer.len(), at));
     if n == 16 {
-        return Row {
-            pixels: bytes_at(buffer, at, 16),
-        };
+        return row_within(buffer, at);
     }
     Row {
         pixels: bytes_at(buffer, at, n),
@@ -55,6 +62,31 @@ fn tile_from(buffer: &[u8], width: usize, at: usize) -> Tile
         j += 1;
     }
     Tile { rows }
+}
+
+// The same where the buffer has all eight rows: no length is tested.
+fn tile_within(buffer: &[u8], width: usize, at: usize) -> Tile
+    requires { ⌜ at + 7 * width + 16 ≤ length (now buffer) ⌝ }
+    ensures { λ r. ⌜ r ≡ tileOf (now (buffer .entry)) width at ⌝ }
+{
+    let blank = Row { pixels: [0; 16] };
+    let mut rows: [Row; 8] = [blank; 8];
+    let mut j: usize = 0;
+    while j < 8 {
+        rows[j] = row_within(buffer, at + j * width);
+        j += 1;
+    }
+    Tile { rows }
+}
+
+fn take_tile(buffer: &[u8], width: usize, at: usize) -> Tile
+    requires { ⌜ (width < 4294967296) × (at < 4611686018427387904) ⌝ }
+    ensures { λ r. ⌜ r ≡ tileOf (now (buffer .entry)) width at ⌝ }
+{
+    if at + 7 * width + 16 <= buffer.len() {
+        return tile_within(buffer, width, at);
+    }
+    tile_from(buffer, width, at)
 }
 
 // Whether the tile with this upper left corner, a register's word, lies wholly inside a buffer.
@@ -78,6 +110,6 @@ pub fn tile_at(buffer: &[u8], extent: Extent, corner: u32) -> Fill
     let p = point_of(corner);
     let width = extent.width as usize;
     let at = (p.y - ORIGIN) * width + (p.x - ORIGIN);
-    let tile = tile_from(buffer, width, at);
+    let tile = take_tile(buffer, width, at);
     Fill { whole: true, tile }
 }

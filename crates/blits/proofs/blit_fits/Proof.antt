@@ -20,9 +20,6 @@ mul-area c =
 blit-count-requires : tie.Need-blit-count-requires
 blit-count-requires c κs = search needs
 
-lent-size-requires : tie.Need-lent-size-requires
-lent-size-requires c κs = search needs
-
 window-inside-requires : tie.Need-window-inside-requires
 window-inside-requires c κs = search needs
 
@@ -32,12 +29,11 @@ saturating-sub-requires c κs = search needs
 returns : tie.Need-returns
 returns c =
     let inside = c .before in
-    let lent = inside .before in
+    let counted = inside .before in
     rw (
       c .saturating-sub .ensures,
       inside .window-inside .ensures,
-      lent .lent-size .ensures,
-      lent .before .blit-count .ensures,
+      counted .blit-count .ensures,
       ← fits-in _ _ _,
     )
 
@@ -49,7 +45,6 @@ blit-fits-spec =
     cast-area-2
     mul-area
     blit-count-requires
-    lent-size-requires
     window-inside-requires
     saturating-sub-requires
     returns)

@@ -23,9 +23,7 @@ returns-2 : tie.Need-returns-2
 returns-2 c = no-visits _ _ _ _ _ (c .if2 .taken) ∙ blit-in _ _ _ _ _ (fits (c .before))
 
 draw-visits-requires : tie.Need-draw-visits-requires
-draw-visits-requires c κs =
-    let o = c .before .before in
-    (omega arith, fitting-of _ _ _ _ _ (o .before .before .before .before .pre) (fits o))
+draw-visits-requires c κs = (omega arith, fitting-of _ _ _ _ _ (fits (c .before .before)))
 
 same-length : tie.Need-same-length
 same-length c = search needs

@@ -1,12 +1,10 @@
--- An empty box draws nothing (`no-columns`, `no-rows`); another is the rows from its corners' places (`box-painted`), in a buffer
--- (`start-reads`) or in a tile (`start-fits`).
+-- An empty box draws nothing (`no-columns`, `no-rows`); another is the rows from its corners' places (`box-painted`).
 use borrow.Author.Needs.{needs}
 use mathlib.Core.Path.{refl}
 use Prim.Native.Nat.{_<_}
 use native.Mathlib.Omega.{arith}
 use Rattle.blits.proofs.Bounds.{source-small}
-use Rattle.blits.specs.Blits.{sourcePixels}
-use Rattle.blits.proofs.Boxes.{no-columns, no-rows, start-fits, start-reads, box-painted}
+use Rattle.blits.proofs.Boxes.{no-columns, no-rows, box-painted}
 use Rattle.blits.proofs.paint_box.Statement.{statement}
 use Rattle.blits.proofs.paint_box.Tie as tie
 
@@ -25,8 +23,8 @@ source-width-requires c κs = search needs
 place-at-requires : tie.Need-place-at-requires
 place-at-requires c κs = search needs
 
-start-at-requires : tie.Need-start-at-requires
-start-at-requires c κs =
+place-at-requires-2 : tie.Need-place-at-requires-2
+place-at-requires-2 c κs =
     let stride = c .before in
     let start = stride .before .before .before .before .before in
     let s = start .args in
@@ -48,20 +46,13 @@ paint-rows-requires c κs =
     let second = c .before in
     let first = second .before in
     let stride = first .before in
-    let start = stride .before .before .before .before .before in
-    let s = start .args in
-    let f = start .pre in
-    let width = sourcePixels (s .paint) (s .width) in
-    rw (second .start-at .ensures, first .place-at .ensures, stride .source-width .ensures)
+    let f = stride .before .before .before .before .before .pre in
+    rw (second .place-at2 .ensures, first .place-at .ensures, stride .source-width .ensures)
     (record {
-      lent = f .lent;
-      tile = start-fits (s .paint) (s .to) (s .from) width (s .direction) (s .across .from) (s .across .past) (s .down .from);
+      same = f .same;
       apart = refl;
       target = f .target (omega arith) (omega arith);
-      source =
-          λ t.
-          rw (start-reads (s .paint) (s .to) (s .from) width (s .direction) (s .across .from) (s .across .past) (s .down .from) t)
-          (f .source t (omega arith) (omega arith));
+      source = λ t. f .source t (omega arith) (omega arith);
     })
 
 same-length : tie.Need-same-length
@@ -75,7 +66,7 @@ returns-3 c =
     let stride = first .before in
     let s = stride .before .before .before .before .before .args in
     box-painted (s .paint) (s .width) (s .to) (s .from) (s .direction) (s .across) (s .down) _ _ _ _ _ _ (stride .source-width .ensures)
-    (first .place-at .ensures) (second .start-at .ensures) (done .paint-rows .ensures)
+    (first .place-at .ensures) (second .place-at2 .ensures) (done .paint-rows .ensures)
 
 pub paint-box-spec : {M : Type 1} → statement M
 paint-box-spec =
@@ -85,7 +76,7 @@ paint-box-spec =
     returns-2
     source-width-requires
     place-at-requires
-    start-at-requires
+    place-at-requires-2
     sub-paint-rows
     sub-paint-rows-2
     paint-rows-requires

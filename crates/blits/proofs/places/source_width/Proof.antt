@@ -24,9 +24,6 @@ enum-told-5 c = search needs
 mul-result-2 : tie.Need-mul-result-2
 mul-result-2 c = search needs
 
-enum-told-6 : tie.Need-enum-told-6
-enum-told-6 c = search needs
-
 returns : tie.Need-returns
 returns c = search needs
 
@@ -42,9 +39,6 @@ returns-4 c = rw (c .enum-told4 .given .1)
 returns-5 : tie.Need-returns-5
 returns-5 c = rw (c .enum-told5 .given .1)
 
-returns-6 : tie.Need-returns-6
-returns-6 c = rw (c .enum-told6 .given .1)
-
 pub source-width-spec : {M : Type 1} → statement M
 source-width-spec =
     tie.close
@@ -56,10 +50,8 @@ source-width-spec =
     mul-result
     enum-told-5
     mul-result-2
-    enum-told-6
     returns
     returns-2
     returns-3
     returns-4
-    returns-5
-    returns-6)
+    returns-5)

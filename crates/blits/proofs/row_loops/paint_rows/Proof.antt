@@ -1,7 +1,7 @@
 -- By the paint: each arm is the contract of its loop, with what that loop needs taken from `PaintFits`.
 use borrow.Author.Needs.{needs}
 use mathlib.Core.Path.{refl}
-use Rattle.blits.proofs.Painted.{stride-is, source-own, source-other, lent-is, tile-is}
+use Rattle.blits.proofs.Painted.{stride-is, source-own, source-other}
 use Rattle.blits.proofs.row_loops.paint_rows.Statement.{statement}
 use Rattle.blits.proofs.row_loops.paint_rows.Tie as tie
 
@@ -50,16 +50,6 @@ stipple-within-requires c κs =
     let f = told .before .before .before .before .pre in
     let is = told .paint5 .given .1 in
     (f .target, rw (← stride-is is f) (source-own is f refl))
-
-enum-known-paint-6 : tie.Need-enum-known-paint-6
-enum-known-paint-6 c = search needs
-
-tile-rows-requires : tie.Need-tile-rows-requires
-tile-rows-requires c κs =
-    let told = c .before .before in
-    let f = told .before .before .before .before .pre in
-    let is = told .paint6 .given .1 in
-    (f .target, tile-is is f refl, lent-is is f .size, lent-is is f .twice refl)
 
 same-length : tie.Need-same-length
 same-length c = search needs
@@ -121,17 +111,6 @@ returns-5 c =
     let is = told .paint5 .given .1 in
     rw (is, stride-is is (start .pre)) (done .stipple-within .ensures (s .other .now))
 
-same-length-6 : tie.Need-same-length-6
-same-length-6 c = search needs
-
-returns-6 : tie.Need-returns-6
-returns-6 c =
-    let done = c .before .before in
-    let told = done .before .before .before in
-    let start = told .before .before .before .before in
-    let is = told .paint6 .given .1 in
-    rw (is, stride-is is (start .pre)) (done .tile-rows .ensures (start .args .back))
-
 pub paint-rows-spec : {M : Type 1} → statement M
 paint-rows-spec =
     tie.close
@@ -146,8 +125,6 @@ paint-rows-spec =
     stipple-rows-requires
     enum-known-paint-5
     stipple-within-requires
-    enum-known-paint-6
-    tile-rows-requires
     same-length
     returns
     same-length-2
@@ -157,6 +134,4 @@ paint-rows-spec =
     same-length-4
     returns-4
     same-length-5
-    returns-5
-    same-length-6
-    returns-6)
+    returns-5)

@@ -1,28 +1,19 @@
--- The loop keeps `Swept`: the pixels of so many whole blocks are drawn. Each turn is one block more (`block-more`), and the bytes
--- that were kept first draw as those of the source do (`blocks-kept`).
+-- The loop keeps `Swept`: the pixels of so many whole blocks are drawn. Each turn is one block more (`block-more`).
 use native.Mathlib.Omega.{arith}
 use borrow.Author.Needs.{needs}
 use mathlib.Core.Path.{_≡_, refl, _∙_}
 use Prim.Native.Nat.{_-_, _%_}
-use lib.Dec.{lit≤}
-use Rattle.rows.specs.Rows.{mixed, inBlocks}
+use Rattle.rows.specs.Rows.{mixed}
 use Rattle.lemmas.proofs.Sweeps.{sweep-start, Swept, swept-start, swept-turn, swept-end}
-use Rattle.rows.proofs.Tiles.{block-more, blocks-kept}
+use Rattle.rows.proofs.Tiles.{again, block-more}
 use Rattle.rows.proofs.tiled.mix_blocks.Statement.{statement}
 use Rattle.rows.proofs.tiled.mix_blocks.Tie as tie
 
 abbrev Inv-loop : tie.InvT-loop
-Inv-loop buffer₀ at n wide mix pixels k₀ buffer k =
-    (k % 32 ≡ 0) × Swept (λ k. inBlocks (mixed mix) k buffer₀ at pixels) n buffer₀ buffer k
+Inv-loop buffer₀ at n mix pixels k₀ buffer k = (k % 32 ≡ 0) × Swept (λ k. again (mixed mix) k buffer₀ at pixels) n buffer₀ buffer k
 
 abbrev μ-loop : tie.MeasureT-loop
-μ-loop buffer₀ at n wide mix pixels k₀ buffer k = n - k
-
-slice-aggregate-copy-bytes : tie.Need-slice-aggregate-copy-bytes Inv-loop μ-loop
-slice-aggregate-copy-bytes c = search needs
-
-copy-bytes-requires : tie.Need-copy-bytes-requires Inv-loop μ-loop
-copy-bytes-requires c κs = search needs
+μ-loop buffer₀ at n mix pixels k₀ buffer k = n - k
 
 loop-holds : tie.Need-loop-holds Inv-loop μ-loop
 loop-holds c = (refl, swept-start _ _ _ (sweep-start _ _ _))
@@ -36,6 +27,18 @@ slice-aggregate-mix-bytes c = search needs
 mix-bytes-requires : tie.Need-mix-bytes-requires Inv-loop μ-loop
 mix-bytes-requires c κs = (omega arith, search needs)
 
+add-mix-bytes-2 : tie.Need-add-mix-bytes-2 Inv-loop μ-loop
+add-mix-bytes-2 c = omega arith
+
+add-mix-bytes-3 : tie.Need-add-mix-bytes-3 Inv-loop μ-loop
+add-mix-bytes-3 c = omega arith
+
+slice-aggregate-mix-bytes-2 : tie.Need-slice-aggregate-mix-bytes-2 Inv-loop μ-loop
+slice-aggregate-mix-bytes-2 c = search needs
+
+mix-bytes-requires-2 : tie.Need-mix-bytes-requires-2 Inv-loop μ-loop
+mix-bytes-requires-2 c κs = (omega arith, search needs)
+
 add-k : tie.Need-add-k Inv-loop μ-loop
 add-k c = omega arith
 
@@ -44,26 +47,22 @@ loop-less c = omega arith
 
 loop-again : tie.Need-loop-again Inv-loop μ-loop
 loop-again c =
-    let turn = c .before .before in
-    let o = turn .before .before .before .before in
-    let kept = o .before .before in
-    let a = kept .before .before .before .before .args in
-    let k = o .loop .k in
+    let second = c .before .before in
+    let first = second .before .before .before .before .before in
+    let o = first .before .before .before .before in
+    let a = o .before .before .args in
     let x = o .loop .inv in (
       omega arith,
-      swept-turn (x .1) 32 _ (omega arith) (turn .mix-bytes .kept .0)
-          (block-more (mixed (a .mix)) k (a .buffer .now) (o .loop .buffer) _ (a .at) (kept .copy-bytes .last .0) (x .0) (x .1 .done) (turn .mix-bytes .ensures)),
+      swept-turn (x .1) 32 _ (omega arith) (second .mix-bytes2 .kept .0 ∙ first .mix-bytes .kept .0)
+          (block-more (mixed (a .mix)) (a .buffer .now) (a .at) (a .t4) (o .loop .k) (o .loop .buffer) _ _ (x .0) (x .1 .done)
+          (first .mix-bytes .ensures) (second .mix-bytes2 .ensures)),
     )
 
 same-length : tie.Need-same-length Inv-loop μ-loop
 same-length c = omega arith
 
 returns : tie.Need-returns Inv-loop μ-loop
-returns c =
-    let kept = c .before .before .before in
-    let a = kept .before .before .before .before .args in
-    swept-end (c .before .loop .inv .1) (c .loop-test .left)
-    ∙ blocks-kept (mixed (a .mix)) (a .n) (a .buffer .now) (a .at) (a .wide .now) _ _ (lit≤ tt) (kept .copy-bytes .ensures)
+returns c = swept-end (c .before .loop .inv .1) (c .loop-test .left)
 
 pub mix-blocks-spec : {M : Type 1} → statement M
 mix-blocks-spec =
@@ -71,12 +70,14 @@ mix-blocks-spec =
     (tie.spec
     Inv-loop
     μ-loop
-    slice-aggregate-copy-bytes
-    copy-bytes-requires
     loop-holds
     add-mix-bytes
     slice-aggregate-mix-bytes
     mix-bytes-requires
+    add-mix-bytes-2
+    add-mix-bytes-3
+    slice-aggregate-mix-bytes-2
+    mix-bytes-requires-2
     add-k
     loop-less
     loop-again

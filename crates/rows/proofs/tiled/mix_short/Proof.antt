@@ -71,8 +71,8 @@ returns c =
     let s = x .before .before .before .before in
     let a = s .args in
     mixed-twice (mixed (a .mix)) 8 (a .n) (a .buffer .now) (a .at) (a .source .now) (a .from) (s .pre .2) (s .pre .0) (s .pre .1)
-    _ _ _ _ _ _ _ _ _ (lit≤ tt) (lit≤ tt) (lit≤ tt) (x .copy-bytes .ensures) (y .copy-bytes2 .ensures) (k .copy-bytes3 .ensures)
-    (t .mix-bytes .ensures) (m .mix-bytes2 .ensures) (r .copy-bytes4 .ensures)
+    _ _ _ _ _ _ (lit≤ tt) (lit≤ tt) (x .copy-bytes .ensures) (y .copy-bytes2 .ensures) (m .mix-bytes2 .ensures)
+    _ _ _ (lit≤ tt) (k .copy-bytes3 .ensures) (t .mix-bytes .ensures) (r .copy-bytes4 .ensures)
 
 pub mix-short-spec : {M : Type 1} → statement M
 mix-short-spec =

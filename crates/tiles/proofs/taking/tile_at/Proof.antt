@@ -50,8 +50,8 @@ add-at c =
     let a = p .before .before .before .before .args in
     omega (arith, place-small _ (a .corner) (p .point-of .ensures) (a .extent .width) (search needs))
 
-tile-from-requires : tie.Need-tile-from-requires
-tile-from-requires c κs =
+take-tile-requires : tie.Need-take-tile-requires
+take-tile-requires c κs =
     let p = c .before .before .before in
     let a = p .before .before .before .before .args in
     let small = place-small _ (a .corner) (p .point-of .ensures) (a .extent .width) (search needs) in
@@ -64,7 +64,7 @@ returns-2 c =
     let w = o .before in
     let a = w .before .before .args in
     taken-whole _ (a .corner) (p .point-of .ensures) (a .extent) _ (w .whole-at .ensures) (o .if1 .left) (a .buffer .now) _
-    (c .tile-from .ensures)
+    (c .take-tile .ensures)
 
 pub tile-at-spec : {M : Type 1} → statement M
 tile-at-spec =
@@ -79,5 +79,5 @@ tile-at-spec =
     mul-at
     sub-at-2
     add-at
-    tile-from-requires
+    take-tile-requires
     returns-2)
