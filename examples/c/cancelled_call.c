@@ -1,7 +1,7 @@
 /* A ship's call on a berth board, written in a font of one bit a pixel, and the call cancelled: a bar struck through its
  * lines. It shows all that there is to using the library: make a board, own its three memories, write a font into the
  * virtual buffer, store a display list into list memory, post it, and run it. With a file name as its argument it also writes
- * the cancelled call into that file, as a picture in binary PGM.
+ * the cancelled call into that file, as a picture in binary PGM; with a second one, a log of its calls for `pramolyt replay`.
  *
  *     cc -Iinclude examples/c/cancelled_call.c target/staticlib/libpramolyt.a -o target/cancelled_call
  *     target/cancelled_call target/cancelled_call.pgm
@@ -14,6 +14,7 @@
 
 #include "pramolyt.h"
 #include "pramolyt_list.h"
+#include "pramolyt_log.h"
 
 enum { WIDTH = 75, HEIGHT = 18, ENTRIES = 64 };
 
@@ -158,6 +159,10 @@ int main(int argc, char **argv)
 {
     display_list first = call(), second = bar();
     uint8_t before[sizeof display];
+    if (argc > 2 && (pramolyt_log = fopen(argv[2], "w")) == NULL) {
+        perror(argv[2]);
+        return 1;
+    }
     check("make", pramolyt_make(&board, WIDTH, HEIGHT, ENTRIES));
     write_font();
     draw("the call", &first);

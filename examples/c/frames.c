@@ -3,6 +3,7 @@
  *  - a list posted while another is being drawn;
  *  - a third list refused while two wait, and posted again in each frame until it is accepted;
  *  - list memory changed by a fault, which stops a run, and two ways to go on.
+ * With a file name as its argument it writes a log of its calls into that file, for `pramolyt replay`.
  *
  *     cc -Iinclude examples/c/frames.c target/staticlib/libpramolyt.a -o target/frames
  */
@@ -13,6 +14,7 @@
 
 #include "pramolyt.h"
 #include "pramolyt_list.h"
+#include "pramolyt_log.h"
 
 enum { WIDTH = 20, HEIGHT = 4, LISTS = 3, COUNT = 12, ENTRIES = LISTS * COUNT, BUDGET = 40 };
 enum { WATER = 1, QUAY = 2, SHIP = 3 };
@@ -84,7 +86,9 @@ static uint32_t run(uint64_t budget, uint64_t *steps)
  * change that leaves an entry legal is not noticed. */
 static void damage(size_t entry)
 {
-    memory[PRAMOLYT_ENTRY_BYTES * entry] ^= 0x80;
+    uint8_t *changed = memory + PRAMOLYT_ENTRY_BYTES * entry;
+    changed[0] ^= 0x80;
+    pramolyt_log_overwrite(entry, changed, PRAMOLYT_ENTRY_BYTES);
     printf("  a fault changes entry %zu\n", entry);
 }
 
@@ -112,7 +116,9 @@ static void mend(void)
     printf("  run again: answer 9 at entry %zu, %" PRIu64 " steps\n", entry, steps);
     expect("store", store(entry, 1), PRAMOLYT_ENTRY_HELD);
     printf("  store of entry %zu: answer 8, a list holds it\n", entry);
-    memcpy(memory + PRAMOLYT_ENTRY_BYTES * entry, lists + PRAMOLYT_ENTRY_BYTES * entry, PRAMOLYT_ENTRY_BYTES);
+    const uint8_t *copy = lists + PRAMOLYT_ENTRY_BYTES * entry;
+    memcpy(memory + PRAMOLYT_ENTRY_BYTES * entry, copy, PRAMOLYT_ENTRY_BYTES);
+    pramolyt_log_overwrite(entry, copy, PRAMOLYT_ENTRY_BYTES);
     printf("  entry %zu is written back\n", entry);
 }
 
@@ -179,8 +185,12 @@ static void make_anew(void)
     print();
 }
 
-int main(void)
+int main(int argc, char **argv)
 {
+    if (argc > 1 && (pramolyt_log = fopen(argv[1], "w")) == NULL) {
+        perror(argv[1]);
+        return 1;
+    }
     build_lists();
     expect("make", pramolyt_make(&board, WIDTH, HEIGHT, ENTRIES), PRAMOLYT_DONE);
     expect("store", store(0, ENTRIES), PRAMOLYT_DONE);

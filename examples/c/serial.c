@@ -15,7 +15,8 @@
  *     cc -Iinclude examples/c/serial.c target/staticlib/libpramolyt.a -o target/serial
  *     stty -F /dev/ttyS0 115200 crtscts && target/serial /dev/ttyS0
  *
- * Without an argument the bytes come from standard input, a file or a pipe. Each fault is a line on standard error. The status
+ * Without an argument the bytes come from standard input, a file or a pipe. A second argument names a file for the log of all
+ * calls, which `pramolyt replay` makes again: what to send in with a fault. Each fault is a line on standard error. The status
  * is 0 where there was none, 1 where there was, 2 where the controller could not begin.
  */
 #define _POSIX_C_SOURCE 200809L
@@ -30,6 +31,7 @@
 
 #include "pramolyt.h"
 #include "pramolyt_list.h"
+#include "pramolyt_log.h"
 
 enum { WIDTH = 40, HEIGHT = 7, ENTRIES = 48 };
 enum { BUDGET = 100, SILENCE = 1000, HEADER = 4, PIECE = 256 };
@@ -310,6 +312,10 @@ int main(int argc, char **argv)
     int line = open_line(argc > 1 ? argv[1] : NULL);
     if (line < 0)
         return 2;
+    if (argc > 2 && (pramolyt_log = fopen(argv[2], "w")) == NULL) {
+        fprintf(stderr, "serial: %s: %s\n", argv[2], strerror(errno));
+        return 2;
+    }
     memset(&c, 0, sizeof c);
     c.terminal = isatty(line);
     if (pramolyt_make(&c.board, WIDTH, HEIGHT, ENTRIES) != PRAMOLYT_DONE) {

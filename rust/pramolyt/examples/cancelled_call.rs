@@ -3,16 +3,18 @@
 //!
 //! It shows all that there is to using the library: make a board, own its three memories, write a font into the virtual
 //! buffer, store a display list into list memory, post it, and run it. With a file name as its argument it also writes the
-//! cancelled call into that file, as a picture in binary PGM. `examples/c/cancelled_call.c` is the same in C.
+//! cancelled call into that file, as a picture in binary PGM; with a second one, a log of its calls for `pramolyt replay`. Without
+//! a log, `Board` takes the place of `LoggedBoard`. `examples/c/cancelled_call.c` is the same in C.
 
 use std::error::Error;
 use std::ffi::OsStr;
 use std::{env, fs};
 
+use call_log::{Log, LoggedBoard};
 use pramolyt::list::{
     ENTRY_BYTES, Entry, Flags, Opcode, RasterCode, Register, command, point, size,
 };
-use pramolyt::{Answer, Board, DISPLAY, VIRTUAL, picture_max};
+use pramolyt::{Answer, DISPLAY, VIRTUAL, picture_max};
 
 const WIDTH: usize = 75;
 const HEIGHT: usize = 18;
@@ -88,15 +90,15 @@ fn bar() -> DisplayList {
 
 /// A board and its three memories.
 struct Panel {
-    board: Board,
+    board: LoggedBoard,
     memory: [u8; ENTRY_BYTES * ENTRIES],
     display: [u8; WIDTH * HEIGHT],
     virt: [u8; WIDTH * HEIGHT],
 }
 
 impl Panel {
-    fn new() -> Result<Panel, Answer> {
-        let (made, board) = Board::make(WIDTH, HEIGHT, ENTRIES);
+    fn new(log: Log) -> Result<Panel, Answer> {
+        let (made, board) = LoggedBoard::make(log, WIDTH, HEIGHT, ENTRIES);
         made.ok()?;
         Ok(Panel {
             board,
@@ -154,7 +156,7 @@ impl Panel {
 }
 
 fn main() -> Result<(), Box<dyn Error>> {
-    let mut panel = Panel::new()?;
+    let mut panel = Panel::new(Log::to_argument(2)?)?;
     panel.write_font()?;
     panel.draw("the call", &call())?;
     panel.print();
@@ -167,5 +169,6 @@ fn main() -> Result<(), Box<dyn Error>> {
     panel.draw("the bar again", &bar())?;
     assert!(panel.display == before, "the call is not as before");
     println!("the call stands as before");
+    panel.board.finish()?;
     Ok(())
 }

@@ -3,12 +3,16 @@
 //!
 //! The program shows a list posted while another is being drawn; a third list refused while two wait, and posted again in
 //! each frame until it is accepted; list memory changed by a fault, which stops a run, and two ways to go on.
-//! `examples/c/frames.c` is the same in C.
+//! With a file name as its argument it writes a log of its calls into that file, for `pramolyt replay`. `examples/c/frames.c` is
+//! the same in C.
 
+use std::error::Error;
+
+use call_log::{Log, LoggedBoard};
+use pramolyt::Answer;
 use pramolyt::list::{
     ENTRY_BYTES, Entry, Flags, Opcode, RasterCode, Register, command, point, size,
 };
-use pramolyt::{Answer, Board};
 
 const WIDTH: usize = 20;
 const HEIGHT: usize = 4;
@@ -68,7 +72,7 @@ fn lists() -> Vec<u8> {
 
 /// A board, its three memories, and the program's own copy of the lists, COUNT entries each.
 struct Panel {
-    board: Board,
+    board: LoggedBoard,
     memory: [u8; ENTRY_BYTES * ENTRIES],
     display: [u8; WIDTH * HEIGHT],
     virt: [u8; WIDTH * HEIGHT],
@@ -76,8 +80,8 @@ struct Panel {
 }
 
 impl Panel {
-    fn new() -> Result<Panel, Answer> {
-        let (made, board) = Board::make(WIDTH, HEIGHT, ENTRIES);
+    fn new(log: Log) -> Result<Panel, Answer> {
+        let (made, board) = LoggedBoard::make(log, WIDTH, HEIGHT, ENTRIES);
         made.ok()?;
         Ok(Panel {
             board,
@@ -103,13 +107,16 @@ impl Panel {
     }
 
     fn next(&self) -> usize {
-        self.board.words()[NEXT] as usize
+        self.board.board().words()[NEXT] as usize
     }
 
     /// What no call does: a bit of an entry changes. The entry now names a register that there is not, so that a run stops
     /// there; a change that leaves an entry legal is not noticed.
     fn damage(&mut self, entry: usize) {
-        self.memory[ENTRY_BYTES * entry] ^= 0x80;
+        let mut changed = [0; ENTRY_BYTES];
+        changed.copy_from_slice(&self.memory[ENTRY_BYTES * entry..][..ENTRY_BYTES]);
+        changed[0] ^= 0x80;
+        self.board.overwrite(&mut self.memory, entry, &changed);
         println!("  a fault changes entry {entry}");
     }
 
@@ -138,8 +145,8 @@ impl Panel {
         println!("  run again: answer 9 at entry {entry}, {steps} steps");
         assert_eq!(self.store(entry, 1), Answer::EntryHeld);
         println!("  store of entry {entry}: answer 8, a list holds it");
-        let bytes = ENTRY_BYTES * entry..ENTRY_BYTES * (entry + 1);
-        self.memory[bytes.clone()].copy_from_slice(&self.lists[bytes]);
+        let copy = &self.lists[ENTRY_BYTES * entry..][..ENTRY_BYTES];
+        self.board.overwrite(&mut self.memory, entry, copy);
         println!("  entry {entry} is written back");
     }
 
@@ -171,7 +178,7 @@ impl Panel {
     fn run_frames(&mut self) -> Result<(), Answer> {
         let mut posted = 0;
         let mut frame = 1;
-        while posted < LISTS || !self.board.is_idle() {
+        while posted < LISTS || !self.board.board().is_idle() {
             println!("frame {frame}");
             if posted < LISTS && self.try_post(posted)? {
                 posted += 1;
@@ -199,9 +206,7 @@ impl Panel {
         );
         let steps = stopped.steps();
         println!("  run: answer 9 at entry {}, {steps} steps", self.next());
-        let (made, board) = Board::make(WIDTH, HEIGHT, ENTRIES);
-        made.ok()?;
-        self.board = board;
+        self.board.make_anew(WIDTH, HEIGHT, ENTRIES).ok()?;
         println!("  the board is made anew");
         let refused = self.post(0);
         assert!(
@@ -219,10 +224,12 @@ impl Panel {
     }
 }
 
-fn main() -> Result<(), Answer> {
-    let mut panel = Panel::new()?;
+fn main() -> Result<(), Box<dyn Error>> {
+    let mut panel = Panel::new(Log::to_argument(1)?)?;
     panel.store(0, ENTRIES).ok()?;
     println!("{LISTS} lists of {COUNT} entries, {BUDGET} steps a frame");
     panel.run_frames()?;
-    panel.make_anew()
+    panel.make_anew()?;
+    panel.board.finish()?;
+    Ok(())
 }
