@@ -1,7 +1,8 @@
 /* Two berths of a quay are closed and hatched, and one is opened again. The hatching is a tile of 16 by 8 pixels, which is
  * written into the virtual buffer once; a blit with APAT fills a berth from it. Each pixel has the tile's column and row by its
  * own place on the board, so that the hatching goes on from berth to berth. With raster code 6, exclusive or, the same blit
- * drawn again takes it away.
+ * drawn again takes it away. With a file name as its argument it writes a log of its calls into that file, for `pramolyt
+ * replay`.
  *
  *     cc -Iinclude examples/c/closed_berth.c target/staticlib/libpramolyt.a -o target/closed_berth
  */
@@ -12,6 +13,7 @@
 
 #include "pramolyt.h"
 #include "pramolyt_list.h"
+#include "pramolyt_log.h"
 
 /* Berths are side by side, with a pier between them and the quay below. */
 enum { BERTHS = 4, BERTH_WIDTH = 13, BERTH_HEIGHT = 9, WIDTH = BERTHS * (BERTH_WIDTH + 1) + 1, HEIGHT = BERTH_HEIGHT + 1 };
@@ -127,8 +129,12 @@ static void print(void)
     }
 }
 
-int main(void)
+int main(int argc, char **argv)
 {
+    if (argc > 1 && (pramolyt_log = fopen(argv[1], "w")) == NULL) {
+        perror(argv[1]);
+        return 1;
+    }
     display_list built = quay(), closed = hatching(1, 2), opened = hatching(2, 2);
     check("make", pramolyt_make(&board, WIDTH, HEIGHT, ENTRIES));
     write_tile();

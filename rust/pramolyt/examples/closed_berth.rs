@@ -1,13 +1,17 @@
 //! Two berths of a quay are closed and hatched, and one is opened again. The hatching is a tile of 16 by 8 pixels, which is
 //! written into the virtual buffer once; a blit with APAT fills a berth from it. Each pixel has the tile's column and row by
 //! its own place on the board, so that the hatching goes on from berth to berth. With raster code 6, exclusive or, the same
-//! blit drawn again takes it away. `examples/c/closed_berth.c` is the same in C.
+//! blit drawn again takes it away. With a file name as its argument it writes a log of its calls into that file, for
+//! `pramolyt replay`. `examples/c/closed_berth.c` is the same in C.
 
+use std::error::Error;
+use std::ops::RangeInclusive;
+
+use call_log::{Log, LoggedBoard};
 use pramolyt::list::{
     ENTRY_BYTES, Entry, Flags, Opcode, RasterCode, Register, command, point, size,
 };
-use pramolyt::{Answer, Board, VIRTUAL};
-use std::ops::RangeInclusive;
+use pramolyt::{Answer, VIRTUAL};
 
 // Berths are side by side, with a pier between them and the quay below.
 const BERTHS: usize = 4;
@@ -84,15 +88,15 @@ fn hatching(berths: RangeInclusive<usize>) -> DisplayList {
 
 /// A board and its three memories.
 struct Panel {
-    board: Board,
+    board: LoggedBoard,
     memory: [u8; ENTRY_BYTES * ENTRIES],
     display: [u8; WIDTH * HEIGHT],
     virt: [u8; WIDTH * HEIGHT],
 }
 
 impl Panel {
-    fn new() -> Result<Panel, Answer> {
-        let (made, board) = Board::make(WIDTH, HEIGHT, ENTRIES);
+    fn new(log: Log) -> Result<Panel, Answer> {
+        let (made, board) = LoggedBoard::make(log, WIDTH, HEIGHT, ENTRIES);
         made.ok()?;
         Ok(Panel {
             board,
@@ -126,7 +130,7 @@ impl Panel {
         self.board.store(&mut self.memory, 0, &list.bytes).ok()?;
         self.board.post(&self.memory, 0, count).ok()?;
         let first = self.run(50)?;
-        let held = if self.board.holds_tile() {
+        let held = if self.board.board().holds_tile() {
             ", a tile is held"
         } else {
             ""
@@ -147,8 +151,8 @@ impl Panel {
     }
 }
 
-fn main() -> Result<(), Answer> {
-    let mut panel = Panel::new()?;
+fn main() -> Result<(), Box<dyn Error>> {
+    let mut panel = Panel::new(Log::to_argument(1)?)?;
     panel.write_tile()?;
     panel.draw("the quay", &quay())?;
     panel.print();
@@ -156,5 +160,6 @@ fn main() -> Result<(), Answer> {
     panel.print();
     panel.draw("berth 3 is open again", &hatching(2..=2))?;
     panel.print();
+    panel.board.finish()?;
     Ok(())
 }
