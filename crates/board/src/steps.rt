@@ -35,9 +35,9 @@ impl Board {
         }
     }
 
-    // With the list and the engine that steps of the active list leave.
+    // With the list, the engine and the fill that steps of the active list leave.
     pub(crate) fn moved(self, cursor: Cursor, engine: Engine, fill: Fill) -> Board
-        ensures { λ r. ⌜ r ≡ settledOf (withSteps self cursor engine) ⌝ }
+        ensures { λ r. ⌜ r ≡ settledOf (withSteps self cursor engine fill) ⌝ }
     {
         let z = self.sizes;
         let a = self.active;

@@ -2,6 +2,9 @@
 ghost use mathlib.Core.Path.{_≡_};
 ghost use Prim.Native.Nat.{_+_, _≤_};
 ghost use Rattle.pramolyt.specs.Image.{sizesAt, commandAt, registersAt, patternAt, lastAt, words, flagOf, putWords, sizesWords, slotWords, commandWords, registersWords, patternWords, lastWords, wordsOf, sizesIn, slotIn, registersIn, patternIn, engineIn, boardOf, flagsOk};
+use crate::fill_image::fill_in;
+use crate::fill_image::put_fill;
+use crate::fill_image::tile_blank_in;
 use board::Board;
 use commands::Engine;
 use geometry::Extent;
@@ -12,11 +15,6 @@ use registers::Registers;
 use slots::Active;
 use slots::Sizes;
 use slots::Slot;
-use tiles::Fill;
-use tiles::Row;
-use tiles::Tile;
-use tiles::no_fill;
-use tiles::pixel;
 
 // Where each part of the record begins, and how many words there are.
 const SIZES: usize = 0;
@@ -35,9 +33,9 @@ const PATTERN: usize = 25;
 
 const LAST: usize = 27;
 
-const WHOLE: usize = 28;
+pub(crate) const FILL: usize = 28;
 
-const TILE: usize = 29;
+pub(crate) const TILE: usize = 29;
 
 pub(crate) const WORDS: usize = 61;
 
@@ -47,77 +45,15 @@ fn flag(b: bool) -> u32
     if b { 1 } else { 0 }
 }
 
-// Whether each flag is 0 or 1.
+// Whether each flag is 0 or 1, and zeros stand where no tile is held.
 pub(crate) fn flags_ok(w: [u32; WORDS]) -> bool
     ensures { λ r. ⌜ r ≡ flagsOk w ⌝ }
 {
     (w[ACTIVE] < 2)
         & (w[PENDING] < 2)
         & (w[COMMAND] < 2)
-        & (w[WHOLE] < 2)
-        & ((w[WHOLE] == 1) | blank(w))
-}
-
-fn blank(w: [u32; WORDS]) -> bool {
-    let mut sum: u32 = 0;
-    let mut i: usize = 0;
-    while i < 32 {
-        sum = sum | w[TILE + i];
-        i += 1;
-    }
-    sum == 0
-}
-
-fn part(x: u32, m: u32) -> u8 {
-    ((x >> (8 * m)) % 256) as u8
-}
-
-fn word(a: u8, b: u8, c: u8, d: u8) -> u32 {
-    a as u32 + 256 * (b as u32) + 65536 * (c as u32) + 16777216 * (d as u32)
-}
-
-fn row_in(w: [u32; WORDS], j: usize) -> Row {
-    let mut pixels: [u8; 16] = [0; 16];
-    let mut i: usize = 0;
-    while i < 16 {
-        pixels[i] = part(w[TILE + 4 * j + i / 4], (i % 4) as u32);
-        i += 1;
-    }
-    Row { pixels }
-}
-
-fn fill_in(w: [u32; WORDS]) -> Fill {
-    if w[WHOLE] == 0 {
-        return no_fill();
-    }
-    let blank = Row { pixels: [0; 16] };
-    let mut rows: [Row; 8] = [blank; 8];
-    let mut j: usize = 0;
-    while j < 8 {
-        rows[j] = row_in(w, j);
-        j += 1;
-    }
-    let tile = Tile { rows };
-    Fill { whole: true, tile }
-}
-
-fn put_fill(w: [u32; WORDS], f: Fill) -> [u32; WORDS] {
-    let mut v = w;
-    if !f.whole {
-        return v;
-    }
-    v[WHOLE] = 1;
-    let tile = f.tile;
-    let mut i: usize = 0;
-    while i < 32 {
-        let a = pixel(tile, 4 * i, i / 4);
-        let b = pixel(tile, 4 * i + 1, i / 4);
-        let c = pixel(tile, 4 * i + 2, i / 4);
-        let d = pixel(tile, 4 * i + 3, i / 4);
-        v[TILE + i] = word(a, b, c, d);
-        i += 1;
-    }
-    v
+        & (w[FILL] < 2)
+        & ((w[FILL] == 1) | tile_blank_in(w))
 }
 
 fn sizes_in(w: [u32; WORDS]) -> Sizes
@@ -276,11 +212,11 @@ pub(crate) fn encode(b: Board) -> [u32; WORDS]
     let p = b.pending;
     let e = b.engine;
     let g = e.registers;
+    let f = b.fill;
     let blank = [0; WORDS];
     let sized = put_sizes(blank, z);
     let active = put_slot(sized, ACTIVE, a.slot());
     let mut both = put_slot(active, PENDING, p);
     both[NEXT] = c.next;
-    let f = b.fill;
     put_fill(put_command(put_registers(both, g), e), f)
 }

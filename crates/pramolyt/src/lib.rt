@@ -5,6 +5,7 @@ ghost use mathlib.Core.Path.{_≡_};
 ghost use Rattle.pramolyt.specs.Exports.{made, makeImage, posted, postImage, changed, storeImage, writeImage, pictured, exportImage, importImage, ran, runImage, feedOf, received, feedImage, filed, packFile, unpackFile};
 ghost use Rattle.feeds.specs.Feeds.{startAt};
 
+mod fill_image;
 mod image;
 
 use board::Board;

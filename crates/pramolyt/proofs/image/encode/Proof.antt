@@ -1,3 +1,9 @@
+-- The parts are put into zeros one after the other, and the fill after the others (`head-is`).
+use mathlib.Core.Path.{_≡_, ap, _∙_}
+use mathlib.Core.List.{_++_}
+use lib.ListN.{take, drop, replicate}
+use Rattle.pramolyt.specs.FillImage.{fillAt, fillWords}
+use Rattle.pramolyt.proofs.RoundTrips.{headOf}
 use borrow.Author.Needs.{needs}
 use Rattle.pramolyt.proofs.image.encode.Statement.{statement}
 use Rattle.pramolyt.proofs.image.encode.Tie as tie
@@ -23,8 +29,9 @@ put-registers-requires c κs = search needs
 put-command-requires : tie.Need-put-command-requires
 put-command-requires c κs = search needs
 
-returns : tie.Need-returns
-returns c =
+-- the image before the fill is put
+head-is : (c : tie.After-put-command) → c .put-command .result ≡ headOf (c .before .before .before .before .before .before .before .before .before .before .before .before .before .args .b) ++ replicate 33 0
+head-is c =
     let slots = c .before .before in
     let first = slots .before in
     rw (
@@ -35,6 +42,12 @@ returns c =
       first .before .slot .ensures,
       first .before .before .put-sizes .ensures,
     )
+
+put-fill-requires : tie.Need-put-fill-requires
+put-fill-requires c κs = ap (drop fillAt) (head-is c)
+
+returns : tie.Need-returns
+returns c = c .put-fill .ensures ∙ ap (λ w. take fillAt w ++ fillWords (c .before .before .before .before .before .before .before .before .before .before .before .before .before .before .args .b .fill)) (head-is (c .before))
 
 pub encode-spec : {M : Type 1} → statement M
 encode-spec =
@@ -47,4 +60,5 @@ encode-spec =
     array-write-both
     put-registers-requires
     put-command-requires
+    put-fill-requires
     returns)
