@@ -51,7 +51,7 @@ plane-long width height tile = map-below-length (λ i. pixelOf tile (i % width) 
 pixel-by : (tile : Tile) (x y x′ y′ : ℕ) → x % 16 ≡ x′ % 16 → y % 8 ≡ y′ % 8 → pixelOf tile x y ≡ pixelOf tile x′ y′
 pixel-by tile x y x′ y′ e f = ap₂ (λ i j. getD (getD (tile .rows) j noRow .pixels) i 0) e f
 
-plane-at : (width height : ℕ) (tile : Tile) (x y : ℕ) → x < width → y < height
+pub plane-at : (width height : ℕ) (tile : Tile) (x y : ℕ) → x < width → y < height
     → getD (planeOf width height tile) (y * width + x) 0 ≡ pixelOf tile x y
 unfolding planeOf
 plane-at width height tile x y h l =

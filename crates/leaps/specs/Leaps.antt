@@ -16,6 +16,7 @@ use Rattle.rows.specs.declared.Mix.{Mix}
 use Rattle.stipples.specs.declared.Stipple.{Stipple}
 use Rattle.blits.specs.declared.Blit.{Blit}
 use Rattle.blits.specs.declared.Paint.{Paint}
+use Rattle.blits.specs.declared.tiled.Tiling.{Tiling}
 use Rattle.blits.specs.declared.Paint.the-variants.{Solid, Copied, Moved, Stippled, StippledWithin}
 use Rattle.entries.specs.Fields.{patternControlOf, isBlit, isLine}
 use Rattle.registers.specs.declared.dashes.Pattern.{Pattern}
@@ -73,6 +74,19 @@ blitIn extent e =
       size = e .registers .xy2;
       direction = e .registers .xy3;
       paint = paintOf e;
+    }
+
+-- With APAT it draws a tile (02, R-7).
+abbrev pub tilingIn : Extent → Engine → Tiling
+tilingIn extent e =
+    record {
+      selectors = mixIn e .selectors;
+      width = extent .width;
+      height = extent .height;
+      window = windowIn extent (e .registers);
+      to = e .registers .xy1;
+      size = e .registers .xy2;
+      direction = e .registers .xy3;
     }
 
 -- Visit k of those that the window shows is this one of all visits of the blit; and n visits of `count`, from the next one on,
@@ -137,6 +151,11 @@ goesByStroke extent e n display virt =
     && isLine (commandIn e)
     && ltb 1 (countOf extent e)
     && leb (extent .height) 65536
+
+-- Row by row from a tile.
+unfoldable pub goesByTile : Extent → Engine → ℕ → ℕ → ℕ → Bool
+goesByTile extent e n display virt =
+    canLeap extent e n display virt && isBlit (commandIn e) && commandIn e .apat && not (commandIn e .solid)
 
 -- Engine and buffers after n visits. The fill is then that of the visits, and no code's affair.
 abbrev pub Visited : ℕ → Extent → Scene → Engine → List ℕ → List ℕ → Type 0

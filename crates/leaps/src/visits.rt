@@ -5,12 +5,15 @@ ghost use Prim.Native.Nat.{_+_, _≤_, _<_};
 ghost use lib.ListN.{length};
 ghost use Rattle.tiles.specs.Tiles.{noFill};
 ghost use Rattle.commands.specs.Visits.{commandIn, countOf};
+ghost use Rattle.commands.specs.Hatching.{fillAfter};
 ghost use Rattle.commands.specs.Steps.{scene, visitsOf};
 ghost use Rattle.strokes.specs.Strokes.{dashed};
-ghost use Rattle.leaps.specs.Leaps.{mixIn, stippleIn, paintOf, blitIn, stretchOf, penIn, strokeIn, movedBy, canLeap, goesByRows, goesByStroke, Visited, leftIn, Bursts};
+ghost use Rattle.leaps.specs.Leaps.{mixIn, stippleIn, paintOf, blitIn, stretchOf, penIn, strokeIn, movedBy, canLeap, tilingIn, goesByRows, goesByStroke, goesByTile, Visited, leftIn, Bursts};
 use blits::Blit;
 use blits::Paint;
+use blits::Tiling;
 use blits::draw_blit;
+use blits::draw_tiled;
 use commands::Engine;
 use entries::command_of;
 use entries::pattern_control_of;
@@ -277,6 +280,55 @@ fn visit_each(
     e
 }
 
+// The blit in CMD from a tile, on a buffer of that extent.
+fn tiling(e: Engine, extent: Extent) -> Tiling
+    ensures { λ r. ⌜ r ≡ tilingIn extent e ⌝ }
+{
+    let g = e.registers;
+    let c = command_of(g.cmd);
+    Tiling {
+        selectors: Selectors::new(c.code, (g.mask % 256) as u8),
+        width: extent.width,
+        height: extent.height,
+        window: e.window(extent),
+        to: g.xy1,
+        size: g.xy2,
+        direction: g.xy3,
+    }
+}
+
+// n pixels of a fill with a tile visited, row by row.
+fn hatch_rows(
+    e: Engine,
+    extent: Extent,
+    fill: Fill,
+    count: usize,
+    n: usize,
+    display: &mut [u8],
+    virt: &mut [u8],
+) -> Engine
+    requires { ⌜ (goesByTile extent e n (length (now display)) (length (now virt)) ≡ true) × (count ≡ countOf extent e) ⌝ }
+    ensures { λ r. ⌜ scene r (fillAfter r fill) (now (display .exit)) (now (virt .exit)) ≡ visitsOf n extent (scene e fill (now (display .entry)) (now (virt .entry))) ⌝ }
+{
+    let g = e.registers;
+    let c = command_of(g.cmd);
+    let t = tiling(e, extent);
+    let after = moved_by(e, extent, count, n, e.pattern);
+    let s = stretch(e, t.window, count, n);
+    let first = s.from;
+    let m = saturating_sub(s.past, s.from);
+    if !fill.whole {
+        return after;
+    }
+    let tile = fill.tile;
+    if c.to_virtual {
+        draw_tiled(t, tile, first, m, virt);
+    } else {
+        draw_tiled(t, tile, first, m, display);
+    }
+    after
+}
+
 // n pixels of a fill with a tile.
 pub(crate) fn visit_hatched(
     e: Engine,
@@ -290,7 +342,48 @@ pub(crate) fn visit_hatched(
     requires { ⌜ count ≡ countOf extent e ⌝ }
     ensures { λ r. ⌜ Visited n extent (scene e fill (now (display .entry)) (now (virt .entry))) r (now (display .exit)) (now (virt .exit)) ⌝ }
 {
+    let g = e.registers;
+    let c = command_of(g.cmd);
+    let leaps = can_leap(e, extent, count, n, display.len(), virt.len());
+    let blit = c.is_blit();
+    if leaps & blit & c.apat & !c.solid {
+        return hatch_rows(e, extent, fill, count, n, display, virt);
+    }
     visit_each(e, extent, fill, n, display, virt)
+}
+
+// All pixels of a fill with a tile at once, where n are all.
+fn hatch_whole(
+    e: Engine,
+    extent: Extent,
+    fill: Fill,
+    count: usize,
+    n: usize,
+    display: &mut [u8],
+    virt: &mut [u8],
+) -> Engine
+    requires { ⌜ count ≡ countOf extent e ⌝ }
+    ensures { λ r. ⌜ Visited n extent (scene e fill (now (display .entry)) (now (virt .entry))) r (now (display .exit)) (now (virt .exit)) ⌝ }
+{
+    let g = e.registers;
+    let c = command_of(g.cmd);
+    let leaps = can_leap(e, extent, count, n, display.len(), virt.len());
+    let blit = c.is_blit();
+    if !(leaps & blit & c.apat & !c.solid & (n == count)) {
+        return visit_hatched(e, extent, fill, count, n, display, virt);
+    }
+    let after = moved_by(e, extent, count, n, e.pattern);
+    if !fill.whole {
+        return after;
+    }
+    let t = tiling(e, extent);
+    let tile = fill.tile;
+    if c.to_virtual {
+        draw_tiled(t, tile, 0, blit_count(g.xy2), virt);
+    } else {
+        draw_tiled(t, tile, 0, blit_count(g.xy2), display);
+    }
+    after
 }
 
 // The engine after a number of steps.
@@ -327,7 +420,7 @@ fn visit_rest(
     }
     let fill = e.fill_taken(extent, display, virt);
     Burst {
-        engine: visit_hatched(e, extent, fill, count, n, display, virt),
+        engine: hatch_whole(e, extent, fill, count, n, display, virt),
         steps: n as u64,
     }
 }

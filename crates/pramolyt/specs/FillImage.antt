@@ -1,5 +1,5 @@
--- The fill of a board record as words (02, R-7): "The record holds whether the tile was whole, and if so the tile": a flag, and the
--- tile's rows in order, four pixels a word, the least significant first; "and zeros otherwise".
+-- The fill of a board record as words (02, R-7): "The record holds whether the tile was whole, and if so the tile, until the fill
+-- ends, and zeros otherwise": a flag, and the tile's rows in order, four pixels a word, the least significant first.
 use mathlib.Core.Path.{_≡_}
 use mathlib.Core.Bool.{Bool, false, cond}
 use mathlib.Core.List.{List, _∷_, map}

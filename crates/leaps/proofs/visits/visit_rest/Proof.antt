@@ -52,8 +52,8 @@ returns-2 c =
 fill-taken-requires : tie.Need-fill-taken-requires
 fill-taken-requires c κs = search needs
 
-visit-hatched-requires : tie.Need-visit-hatched-requires
-visit-hatched-requires c κs = search needs
+hatch-whole-requires : tie.Need-hatch-whole-requires
+hatch-whole-requires c κs = search needs
 
 same-length-3 : tie.Need-same-length-3
 same-length-3 c = search needs
@@ -72,7 +72,7 @@ returns-3 c =
     let s = start .args in
     burst-some (s .n) (s .extent) (s .e) (s .display .now) (s .virt .now) (start .pre .1) _ _ _ refl
     (whole-fill (s .n) (s .extent) (s .e) (s .display .now) (s .virt .now) _ (taken .fill-taken .ensures) (start .pre .0) (start .pre .1)
-    (omega (arith, chosen .if2 .left, left .saturating-sub .ensures, start .pre .1, start .pre .2, start .pre .3)) _ _ _ (done .visit-hatched .ensures))
+    (omega (arith, chosen .if2 .left, left .saturating-sub .ensures, start .pre .1, start .pre .2, start .pre .3)) _ _ _ (done .hatch-whole .ensures))
 
 pub visit-rest-spec : {M : Type 1} → statement M
 visit-rest-spec =
@@ -88,7 +88,7 @@ visit-rest-spec =
     saturating-sub-requires
     returns-2
     fill-taken-requires
-    visit-hatched-requires
+    hatch-whole-requires
     same-length-3
     same-length-4
     returns-3)
