@@ -8,7 +8,7 @@ use native.Mathlib.Omega.{arith}
 use borrow.Author.Tests.{eqb-true, ltb-true, ltb-false, le-ltb, leb-true, leb-false}
 use lib.Dec.{eqb, ltb, leb}
 use lib.ListN.{length}
-use Rattle.lemmas.proofs.Booleans.{by-cases, and-left, and-right, and-true, or-first, or-not, first-of, second-of}
+use Rattle.lemmas.proofs.Booleans.{by-cases, and-left, and-right, and-true, or-first, first-of, second-of}
 use Rattle.geometry.specs.declared.Extent.{Extent}
 use Rattle.entries.specs.Fields.{commandOf, isBlit}
 use Rattle.registers.specs.declared.file.Registers.{Registers}
@@ -188,24 +188,25 @@ burst-done budget extent e d v left n u some p q r d′ v′ b =
 
 -- ---- a fill with a tile, with the budget that there is
 
-pub hatch-none : (budget : ℕ) (extent : Extent) (e : Engine) (f : Fill) (d v : List ℕ) (t : Bool) → t ≡ hatches e → (not t || eqb budget 0) ≡ true
+pub hatch-none : (budget : ℕ) (extent : Extent) (e : Engine) (f : Fill) (d v : List ℕ) → eqb budget 0 ≡ true → hatches e ≡ true
     → HatchDone budget extent (scene e f d v) 0 e d v
-hatch-none budget extent e f d v t is h =
-    by-cases (hatches e)
-    (λ x.
-    let none = eqb-true budget 0 (or-not t (eqb budget 0) h (is ∙ x)) in
+hatch-none budget extent e f d v none x =
+    let zero = eqb-true budget 0 none in
     record {
       idle = λ y. absurd (false≢true (sym y ∙ x));
       going =
           λ _ l c.
           let same = first-of (e .«under_way») f noFill (and-left (e .«under_way») (tiles (commandIn e)) x) in
           subst (λ g. Going l extent budget c (scene e f d v) 0 c (scene e g d v)) same (going-start l extent budget c (scene e f d v));
-      spent = λ _ _. omega arith;
-      still = λ _. omega arith;
+      spent = λ _ _. omega (arith, zero);
+      still = λ _. omega (arith, zero);
       few = omega arith;
       rests = λ _ y. absurd (false≢true (sym y ∙ x));
-    })
-    (λ x.
+    }
+
+pub hatch-idle : (budget : ℕ) (extent : Extent) (e : Engine) (f : Fill) (d v : List ℕ) → hatches e ≡ false
+    → HatchDone budget extent (scene e f d v) 0 e d v
+hatch-idle budget extent e f d v x =
     record {
       idle = λ _. (refl, refl);
       going = λ y. absurd (false≢true (sym x ∙ y));
@@ -213,7 +214,7 @@ hatch-none budget extent e f d v t is h =
       still = λ y. absurd (false≢true (sym x ∙ y));
       few = omega arith;
       rests = λ y. absurd (false≢true (sym x ∙ y));
-    })
+    }
 
 module _ (budget : ℕ) (extent : Extent) (e : Engine) (f : Fill) (d v : List ℕ) (x : hatches e ≡ true) (some : 0 < budget) (left n : ℕ)
     (p : left ≡ leftIn extent e) (q : n ≡ min budget left) (r : Engine) (d′ v′ : List ℕ) (visited : Visited n extent (scene e f d v) r d′ v′)
@@ -351,45 +352,26 @@ module _ (l : List ℕ) (extent : Extent) where
 
   -- then the steps with no tile held, and what the budget allows of a fill that it cuts
   module _ (budget : ℕ) (c₀ : Cursor) (s₀ : Scene) (k : ℕ) (e : Engine) (d₁ v₁ : List ℕ) (going : Going l extent budget c₀ s₀ k c₀ (withTile extent e d₁ v₁))
-      (r : Progress) (d₂ v₂ : List ℕ) (unheld : Unheld l extent (budget - k) c₀ (withTile extent e d₁ v₁) r d₂ v₂)
-      (f : Fill) (taken : f ≡ fillTaken extent (r .engine) d₂ v₂) (j : ℕ) (g : Engine) (d₃ v₃ : List ℕ)
-      (b : HatchDone (budget - (k + r .steps)) extent (scene (r .engine) f d₂ v₂) j g d₃ v₃) where
-    abbrev middle : Scene
-    middle = withTile extent (r .engine) d₂ v₂
+      (r : Progress) (d₂ v₂ : List ℕ) (unheld : Unheld l extent (budget - k) c₀ (withTile extent e d₁ v₁) r d₂ v₂) where
+    pub no-more : hatches (r .engine) ≡ false → (fill : Fill) → fill ≡ noFill
+        → Reaches (k + r .steps) (r .cursor) (scene (r .engine) fill d₂ v₂) (runFrom budget l extent c₀ s₀)
+    no-more x fill p =
+        subst (λ s. Reaches (k + r .steps) (r .cursor) s (runFrom budget l extent c₀ s₀))
+        (sym (without-tile extent (r .engine) d₂ v₂ x) ∙ ap (λ f. scene (r .engine) f d₂ v₂) (sym p))
+        (reaches-then l extent budget c₀ s₀ k c₀ (withTile extent e d₁ v₁) going (r .steps) (r .cursor) (withTile extent (r .engine) d₂ v₂) (unheld .over x))
 
-    middle-is : middle ≡ scene (r .engine) f d₂ v₂
-    middle-is = ap (λ f. scene (r .engine) f d₂ v₂) (sym taken)
-
-    so-far : Going l extent budget c₀ s₀ (k + r .steps) (r .cursor) (scene (r .engine) f d₂ v₂)
-    so-far =
-        subst (λ s. Going l extent budget c₀ s₀ (k + r .steps) (r .cursor) s) middle-is
-        (going-then l extent budget c₀ s₀ k c₀ (withTile extent e d₁ v₁) going (r .steps) (r .cursor) middle (unheld .going))
-
-    cut-fill : hatches (r .engine) ≡ true → Reaches (k + r .steps + j) (r .cursor) (scene g (fillAfter g f) d₃ v₃) (runFrom budget l extent c₀ s₀)
-    cut-fill x =
+    pub cut-fill : hatches (r .engine) ≡ true → (f : Fill) → f ≡ fillTaken extent (r .engine) d₂ v₂ → (j : ℕ) (g : Engine) (d₃ v₃ : List ℕ)
+        → HatchDone (budget - (k + r .steps)) extent (scene (r .engine) f d₂ v₂) j g d₃ v₃ → (fill : Fill) → fill ≡ fillAfter g f
+        → Reaches (k + r .steps + j) (r .cursor) (scene g fill d₃ v₃) (runFrom budget l extent c₀ s₀)
+    cut-fill x f taken j g d₃ v₃ b fill p =
+        let middle = ap (λ f. scene (r .engine) f d₂ v₂) (sym taken) in
+        let so-far =
+        subst (λ s. Going l extent budget c₀ s₀ (k + r .steps) (r .cursor) s) middle
+        (going-then l extent budget c₀ s₀ k c₀ (withTile extent e d₁ v₁) going (r .steps) (r .cursor) (withTile extent (r .engine) d₂ v₂) (unheld .going)) in
         let last =
         going-then l extent budget c₀ s₀ (k + r .steps) (r .cursor) (scene (r .engine) f d₂ v₂) so-far j (r .cursor) (scene g (fillAfter g f) d₃ v₃)
         (b .going x l (r .cursor)) in
         let spent = b .spent x (omega (arith, unheld .cut x)) in
-        reaches (k + r .steps + j) (r .cursor) (scene g (fillAfter g f) d₃ v₃) false (runFrom budget l extent c₀ s₀)
-        (going-spent l extent budget c₀ s₀ (k + r .steps + j) (r .cursor) (scene g (fillAfter g f) d₃ v₃) (omega (arith, spent)) last)
-
-    no-fill : hatches (r .engine) ≡ false → Reaches (k + r .steps + j) (r .cursor) (scene g (fillAfter g f) d₃ v₃) (runFrom budget l extent c₀ s₀)
-    no-fill x =
-        let idle = b .idle x in
-        let none : f ≡ noFill = taken ∙ no-tile extent (r .engine) d₂ v₂ x in
-        let all : k + r .steps ≡ k + r .steps + j = omega (arith, idle .0) in
-        let left : fillAfter g f ≡ f = ap (fillAfter g) none ∙ none-left (g .«under_way») ∙ sym none in
-        let rest : middle ≡ scene g (fillAfter g f) d₃ v₃ = middle-is ∙ sym (idle .1) ∙ ap (λ f. scene g f d₃ v₃) (sym left) in
-        subst (λ n. Reaches n (r .cursor) (scene g (fillAfter g f) d₃ v₃) (runFrom budget l extent c₀ s₀)) all
-        (subst (λ s. Reaches (k + r .steps) (r .cursor) s (runFrom budget l extent c₀ s₀)) rest
-        (reaches-then l extent budget c₀ s₀ k c₀ (withTile extent e d₁ v₁) going (r .steps) (r .cursor) middle (unheld .over x)))
-      where
-        none-left : (t : Bool) → cond t noFill noFill ≡ noFill
-        none-left true = refl
-        none-left false = refl
-
-    pub ran-from : (fill : Fill) → fill ≡ fillAfter g f → Reaches (k + r .steps + j) (r .cursor) (scene g fill d₃ v₃) (runFrom budget l extent c₀ s₀)
-    ran-from fill p =
         subst (λ f. Reaches (k + r .steps + j) (r .cursor) (scene g f d₃ v₃) (runFrom budget l extent c₀ s₀)) (sym p)
-        (by-cases (hatches (r .engine)) cut-fill no-fill)
+        (reaches (k + r .steps + j) (r .cursor) (scene g (fillAfter g f) d₃ v₃) false (runFrom budget l extent c₀ s₀)
+        (going-spent l extent budget c₀ s₀ (k + r .steps + j) (r .cursor) (scene g (fillAfter g f) d₃ v₃) (omega (arith, spent)) last))

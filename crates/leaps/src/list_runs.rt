@@ -3,6 +3,7 @@ ghost use mathlib.Core.Path.{_≡_};
 ghost use mathlib.Core.Bool.{true};
 ghost use Prim.Native.Nat.{_<_};
 ghost use Rattle.lists.specs.Spans.{endOf};
+ghost use Rattle.commands.specs.Hatching.{hatches};
 ghost use Rattle.commands.specs.Visits.{countOf};
 ghost use Rattle.commands.specs.Steps.{scene};
 ghost use Rattle.leaps.specs.ListRuns.{heldBy, reached, GoesTo, runFrom, listRun, BurstDone, EntriesTaken, Unheld, HatchDone};
@@ -165,8 +166,8 @@ fn run_unheld(
     }
 }
 
-// The pixels of a fill with a tile that is under way, as many as the budget allows; none where none is.
-fn hatch_up_to(
+// The pixels of a fill with a tile that is under way, as many as the budget allows.
+fn hatch_some(
     e: Engine,
     extent: Extent,
     fill: Fill,
@@ -174,9 +175,10 @@ fn hatch_up_to(
     display: &mut [u8],
     virt: &mut [u8],
 ) -> Burst
+    requires { ⌜ hatches e ≡ true ⌝ }
     ensures { λ r. ⌜ HatchDone budget extent (scene e fill (now (display .entry)) (now (virt .entry))) (r .steps) (r .engine) (now (display .exit)) (now (virt .exit)) ⌝ }
 {
-    if !e.hatches() | (budget == 0) {
+    if budget == 0 {
         return Burst {
             engine: e,
             steps: 0,
@@ -189,6 +191,26 @@ fn hatch_up_to(
         engine: visit_hatched(e, extent, fill, count, n, display, virt),
         steps: n as u64,
     }
+}
+
+// The same; none where no such fill is under way. This test is its own function, so that a run without one hands no engine on.
+fn hatch_held(
+    e: Engine,
+    extent: Extent,
+    fill: Fill,
+    budget: u64,
+    display: &mut [u8],
+    virt: &mut [u8],
+) -> Burst
+    ensures { λ r. ⌜ HatchDone budget extent (scene e fill (now (display .entry)) (now (virt .entry))) (r .steps) (r .engine) (now (display .exit)) (now (virt .exit)) ⌝ }
+{
+    if !e.hatches() {
+        return Burst {
+            engine: e,
+            steps: 0,
+        };
+    }
+    hatch_some(e, extent, fill, budget, display, virt)
 }
 
 // The same with the fill after them.
@@ -214,7 +236,7 @@ fn run_from(
     requires { ⌜ endOf (cursor .span) < 4294967296 ⌝ }
     ensures { λ r. ⌜ GoesTo r (now (display .exit)) (now (virt .exit)) (runFrom budget (now (list .entry)) extent cursor (scene start (heldBy start held) (now (display .entry)) (now (virt .entry)))) ⌝ }
 {
-    let h = hatch_up_to(start, extent, held, budget, display, virt);
+    let h = hatch_held(start, extent, held, budget, display, virt);
     let e = h.engine;
     if e.hatches() {
         return Held {
@@ -228,8 +250,16 @@ fn run_from(
     let f = r.engine;
     let c = r.cursor;
     let k = h.steps + r.steps;
+    if !f.hatches() {
+        return Held {
+            engine: f,
+            fill: no_fill(),
+            cursor: c,
+            steps: k,
+        };
+    }
     let fill = f.fill_taken(extent, display, virt);
-    let b = hatch_up_to(f, extent, fill, budget - k, display, virt);
+    let b = hatch_some(f, extent, fill, budget - k, display, virt);
     let g = b.engine;
     Held {
         engine: g,

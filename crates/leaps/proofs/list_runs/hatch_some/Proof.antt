@@ -1,25 +1,18 @@
--- Where no fill with a tile is under way, or the budget is none, nothing is done (`hatch-none`); else the lesser of the budget and of
--- what is left (`hatch-some`).
+-- With no budget nothing is done (`hatch-none`); else the lesser of the budget and of what is left (`hatch-some`).
 use Rattle.leaps.proofs.Hatched.{hatch-none, hatch-some}
 use native.Mathlib.Omega.{arith}
 use Prim.Native.Nat.{_-_, max}
-use lib.Dec.{eqb}
-use mathlib.Core.Bool.{not}
-use mathlib.Core.Path.{ap, sym, _∙_}
+use mathlib.Core.Path.{ap, _∙_}
 use borrow.Author.Needs.{needs}
-use borrow.Author.Tests.{not-false, eqb-false}
-use Rattle.lemmas.proofs.Booleans.{or-none-left, or-none-right}
-use Rattle.leaps.proofs.list_runs.hatch_up_to.Statement.{statement}
-use Rattle.leaps.proofs.list_runs.hatch_up_to.Tie as tie
-
-hatches-requires : tie.Need-hatches-requires
-hatches-requires c κs = search needs
+use borrow.Author.Tests.{eq-eqb}
+use Rattle.leaps.proofs.list_runs.hatch_some.Statement.{statement}
+use Rattle.leaps.proofs.list_runs.hatch_some.Tie as tie
 
 returns : tie.Need-returns
 returns c =
-    let o = c .before in
-    let s = o .before .before .before .args in
-    hatch-none (s .budget) (s .extent) (s .e) (s .fill) (s .display .now) (s .virt .now) _ (o .hatches .ensures) (c .if1 .taken)
+    let start = c .before .before .before in
+    let s = start .args in
+    hatch-none (s .budget) (s .extent) (s .e) (s .fill) (s .display .now) (s .virt .now) (eq-eqb (s .budget) 0 (omega arith)) (start .pre)
 
 count-requires : tie.Need-count-requires
 count-requires c κs = search needs
@@ -51,20 +44,16 @@ returns-2 c =
     let few = done .before .before .before in
     let left = few .before in
     let counted = left .before .before .before in
-    let chosen = counted .before in
-    let o = chosen .before in
-    let s = o .before .before .before .args in
-    hatch-some (s .budget) (s .extent) (s .e) (s .fill) (s .display .now) (s .virt .now)
-    (sym (o .hatches .ensures) ∙ not-false _ (or-none-left (not (o .hatches .result)) (eqb (s .budget) 0) (chosen .if1 .left)))
-    (omega (arith, eqb-false (s .budget) 0 (or-none-right (not (o .hatches .result)) (eqb (s .budget) 0) (chosen .if1 .left)))) _ _
+    let start = counted .before .before .before .before in
+    let s = start .args in
+    hatch-some (s .budget) (s .extent) (s .e) (s .fill) (s .display .now) (s .virt .now) (start .pre) (omega arith) _ _
     (left .max .ensures ∙ ap (max 1) (left .before .saturating-sub .ensures ∙ ap (λ n. n - s .e .visited) (counted .count .ensures)))
     (few .min .ensures) _ _ _ (done .visit-hatched .ensures) (done .visit-hatched .kept .1 .1 .1 .1 .1 .0) (done .visit-hatched .kept .1 .1 .1 .1 .1 .1 .0)
 
-pub hatch-up-to-spec : {M : Type 1} → statement M
-hatch-up-to-spec =
+pub hatch-some-spec : {M : Type 1} → statement M
+hatch-some-spec =
     tie.close
     (tie.spec
-    hatches-requires
     returns
     count-requires
     cast-saturating-sub
