@@ -4,9 +4,10 @@
 
 enum { NOOP = 0, BITBLT = 1, LINE = 2, PLINE = 5 };
 
-/* Cold in this file alone: the compiler then lays out the other commands as if this call were not there. */
+/* Cold in this file alone: the compiler then lays out the other commands as if these calls were not there. */
 __attribute__((cold)) void stipple_box(const struct baseline *engine, uint8_t *target, const uint8_t *source,
                                        struct box box);
+__attribute__((cold)) void tile_box(const struct baseline *engine, uint8_t *target, const uint8_t *source, struct box box);
 
 static inline int32_t magnitude(int32_t a)
 {
@@ -174,8 +175,12 @@ static uint64_t blit(struct baseline *engine, uint8_t *const buffers[2])
     if (cmd & SOLID) {
         if (!is_empty(box))
             fill_box(target, engine->width, box, pen_of(mix_of(engine), engine->registers[FORE]));
-    } else if (cmd & STPL) {
-        stipple_box(engine, target, buffers[cmd & FROM_VIRTUAL ? 1 : 0], box);
+    } else if (cmd & (STPL | APAT)) {
+        const uint8_t *source = buffers[cmd & FROM_VIRTUAL ? 1 : 0];
+        if (cmd & STPL)
+            stipple_box(engine, target, source, box);
+        else
+            tile_box(engine, target, source, box);
     } else {
         const struct point from = point_of(engine->registers[XY0]);
         const struct point ahead = {from.x - to.x, from.y - to.y};

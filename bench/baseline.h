@@ -14,6 +14,7 @@ struct baseline {
     uint32_t period;        /* length * scale of the pattern in dots */
     bool stale;             /* dots no longer follow LPAT and PCTRL */
     bool visits_hidden;     /* counts the hidden pixels of blits as steps, as libraries before 0.7.0 do */
+    bool lacks_tiles;       /* refuses blits from a tile, as libraries before 0.9.0 do */
     uint8_t dots[256];      /* the pattern bit at each phase */
     _Alignas(64) uint8_t saved[2048]; /* the source of a row that is copied onto itself */
 };

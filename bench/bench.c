@@ -26,10 +26,11 @@ enum { CMD, FORE, BACK, MASK, KEY, LPAT, PCTRL, CLPTL, CLPBR, XY0, XY2, XY3, XY1
 #define CLIP (1u << 17)
 #define FROM_VIRTUAL (1u << 16)
 #define TO_VIRTUAL (1u << 15)
+#define APAT (1u << 14)
 
 enum { SIDE = 2048, ENTRIES = 4096, PIXELS = SIDE * SIDE, MOST_WORKS = 400, KEY_BYTE = 0x5A };
 
-enum shape { FILL, COPY, STIPPLE, LINES, WRITES };
+enum shape { FILL, COPY, STIPPLE, TILE, LINES, WRITES };
 enum angle { ANY, HORIZONTAL, VERTICAL, DIAGONAL };
 enum yardstick { NO_YARDSTICK, BY_MEMSET, BY_MEMCPY };
 enum hiding { SHOWN, OFF_THE_BOARD, UNDER_A_CLIP };
@@ -47,6 +48,8 @@ enum goal_number {
     SMALL_BLITS,
     STIPPLES, /* one bit a pixel: glyphs too */
     HIDDEN,   /* blits of which 1 % shows */
+    TILES,
+    SMALL_TILES,
     MEMSET,
     MEMCPY,
     GOALS
@@ -242,6 +245,13 @@ static void bit_place(const struct work *w, int32_t *x, int32_t *y)
         *x += random_between(1, 7);
 }
 
+/* The upper left corner of a tile: any of some side by side. */
+static void tile_place(int32_t *x, int32_t *y)
+{
+    *x = 3 + 16 * random_between(0, 3);
+    *y = 5;
+}
+
 static void put_blit(const struct work *w)
 {
     int32_t from_x, from_y, to_x, to_y;
@@ -259,6 +269,8 @@ static void put_blit(const struct work *w)
         hidden_places(w, &from_x, &from_y, &to_x, &to_y);
     if (w->shape == STIPPLE)
         bit_place(w, &from_x, &from_y);
+    if (w->shape == TILE)
+        tile_place(&from_x, &from_y);
     if (w->shape == FILL)
         put(FORE, random_word() & 0xFF);
     else
@@ -291,7 +303,8 @@ static void put_pens(void)
 
 static void build_blits(const struct work *w)
 {
-    put(CMD, BITBLT | flags_of(w) | (w->shape == FILL ? SOLID : w->shape == STIPPLE ? STPL : 0));
+    static const uint32_t styles[] = {[FILL] = SOLID, [COPY] = 0, [STIPPLE] = STPL, [TILE] = APAT};
+    put(CMD, BITBLT | flags_of(w) | styles[w->shape]);
     if (w->shape == STIPPLE)
         put_pens();
     put(MASK, w->mask);
@@ -489,6 +502,8 @@ static bool compare_work(struct work *w, uint64_t budget)
 
 static uint32_t random_style(void)
 {
+    if (random_chance(15))
+        return APAT;
     if (random_chance(40))
         return STPL | (random_chance(10) ? SOLID : 0) | (random_chance(40) ? TRNSP : 0);
     if (random_chance(30))
@@ -748,6 +763,26 @@ static void add_all_stipples(void)
     add_plain_stipples(WIDE_GLYPH);
 }
 
+static void add_tile(enum extent extent, uint32_t code, uint32_t mask, bool clip)
+{
+    struct work *w = add(TILE, "tile code %u%s%s", (unsigned)code, mask == 0xFF ? "" : " mask 0x0F", clip ? " clip" : "");
+    set_extent(w, extent);
+    w->code = code;
+    w->mask = mask;
+    w->clip = clip;
+    w->from_virtual = true;
+    w->goal = extent == SMALL ? SMALL_TILES : TILES;
+}
+
+static void add_tiles(enum extent extent)
+{
+    for (uint32_t code = 3; code <= 6; code += 3) {
+        add_tile(extent, code, 0xFF, false);
+        add_tile(extent, code, 0xFF, true);
+    }
+    add_tile(extent, 3, 0x0F, false);
+}
+
 static struct work *add_line(const char *name, enum angle angle, bool is_long)
 {
     static const char *const names[] = {"any angle", "horizontal", "vertical", "45 degrees"};
@@ -837,6 +872,10 @@ static void add_works(void)
     add_all_copies();
     add_all_stipples();
     add_all_hidden();
+    if (!engine.lacks_tiles) {
+        add_tiles(MIDDLE);
+        add_tiles(SMALL);
+    }
     add_solid_lines(true);
     add_solid_lines(false);
     add_dashed_lines(true);
@@ -951,6 +990,8 @@ static struct goal goals[GOALS] = {
     [SMALL_BLITS] = {"10 x 10", 0.65, 0, 0, 1e9, 0},
     [STIPPLES] = {"glyphs and stipples", 0.7, 0, 0, 1e9, 0},
     [HIDDEN] = {"2048 x 2048 of which 1 % shows", 1.0, 0, 0, 1e9, 0},
+    [TILES] = {"tiles, 500 x 500", 0.8, 0, 0, 1e9, 0},
+    [SMALL_TILES] = {"tiles, 10 x 10", 0.65, 0, 0, 1e9, 0},
     [MEMSET] = {"fills of 2000 x 2000, to memset", 0.7, 0, 0, 1e9, 0},
     [MEMCPY] = {"copies of 2000 x 2000, to memcpy", 0.7, 0, 0, 1e9, 0},
 };
@@ -1066,7 +1107,8 @@ static bool is_cut(const struct work *w)
 {
     static const char *const names[] = {"fill code 3",           "fill code 6",
                                         "copy between code 3",   "copy within code 6",
-                                        "stipple opaque code 3", "line any angle code 3",
+                                        "stipple opaque code 3", "tile code 3",
+                                        "tile code 6",           "line any angle code 3",
                                         "dashed any angle opaque scale 4"};
     if (w->hiding != SHOWN)
         return w->code == 3;
@@ -1142,6 +1184,7 @@ int main(int argc, char **argv)
 {
     const bool tiny = argc > 1 && strcmp(argv[1], "tiny") == 0;
     sizes = tiny ? tiny_sizes : full_sizes;
+    make_engines(sizes.board_width, sizes.board_height);
     add_works();
     return tiny ? compare_all() : time_all(argc > 1 ? argv[1] : NULL);
 }

@@ -15,6 +15,7 @@ enum { CMD, FORE, BACK, MASK, KEY, LPAT, PCTRL, CLPTL, CLPBR, XY0, XY2, XY3, XY1
 #define CLIP (1u << 17)
 #define FROM_VIRTUAL (1u << 16)
 #define TO_VIRTUAL (1u << 15)
+#define APAT (1u << 14)
 
 struct point {
     int32_t x, y;
@@ -88,7 +89,8 @@ static inline struct pen pen_of(struct mix m, uint32_t source)
     return (struct pen){(byte & m.a) ^ m.b, (byte & m.c) ^ m.e};
 }
 
-/* A stippled blit; the box is its visible part. */
+/* A stippled blit, and one from a tile; the box is its visible part. */
 void stipple_box(const struct baseline *engine, uint8_t *target, const uint8_t *source, struct box box);
+void tile_box(const struct baseline *engine, uint8_t *target, const uint8_t *source, struct box box);
 
 #endif

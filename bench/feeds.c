@@ -103,10 +103,28 @@ static bool slots_ok(const pramolyt_board *b)
     return past < b->active_count && b->visited == 0;
 }
 
+/* Whether the tile with its upper left corner at XY0 lies inside the buffer. */
+static bool tile_fits(const pramolyt_board *b)
+{
+    const int32_t x = (int16_t)(b->xy0 >> 16), y = (int16_t)b->xy0;
+    return x >= 0 && x + 16 <= (int32_t)b->width && y >= 0 && y + 8 <= (int32_t)b->height;
+}
+
+static bool tile_ok(const pramolyt_board *b)
+{
+    uint64_t words[16], any = 0;
+    if (b->under_way && bit(b->cmd, 14) && tile_fits(b))
+        return b->tile_whole == 1;
+    memcpy(words, b->tile, sizeof words);
+    for (size_t k = 0; k < 16; k++)
+        any |= words[k];
+    return b->tile_whole == 0 && any == 0;
+}
+
 static bool board_ok(const pramolyt_board *b)
 {
     return (b->active_taken | b->pending_taken | b->under_way) < 2 && b->width - 1 < 2048 && b->height - 1 < 2048 &&
-           b->entries - 1 < 4096 && registers_ok(b) && slots_ok(b);
+           b->entries - 1 < 4096 && registers_ok(b) && slots_ok(b) && tile_ok(b);
 }
 
 static bool feed_ok(const pramolyt_feed_record *f, uint32_t entries)
@@ -223,24 +241,29 @@ static bool time_size(size_t size, int rounds, double best[2])
     return memcmp(&feeds[0], &feeds[1], sizeof feeds[0]) == 0;
 }
 
-/* A board of few entries with random slots, some command perhaps under way, a word of it perhaps changed. */
+/* A board of few entries with random slots, some command perhaps under way, a word of it perhaps changed. Every other one has
+ * room for a tile. */
 static void random_board(void)
 {
     uint64_t place, steps;
-    uint8_t pixels[2][4] = {{0}};
+    static uint8_t pixels[2][16 * 8];
     const size_t entries = 1 + random_word() % FEW;
-    pramolyt_make(&board, 2, 2, entries);
+    const bool room = random_word() % 2;
+    const size_t width = room ? 16 : 2, height = room ? 8 : 2;
+    pramolyt_make(&board, width, height, entries);
     for (size_t k = 0; k < entries; k++) {
         static const uint32_t words[][2] = {{PRAMOLYT_CMD, 0x13800000},   {PRAMOLYT_CMD, 0x13820000},   {PRAMOLYT_CMD, 0x23800000},
                                             {PRAMOLYT_CMD, 0x53880000},   {PRAMOLYT_CLPBR, 0x00000001}, {PRAMOLYT_XY2, 0x00070003},
                                             {PRAMOLYT_XY3, 0x00000003},   {PRAMOLYT_XY1, 0x00050009},   {PRAMOLYT_XY1, 0xFFFEFFFF},
-                                            {PRAMOLYT_XY1, 0x00040002},   {PRAMOLYT_XY0, 0xFFFE0001},   {PRAMOLYT_PCTRL, 0x2144}};
-        const uint32_t *const entry = words[random_word() % 12];
+                                            {PRAMOLYT_XY1, 0x00040002},   {PRAMOLYT_XY0, 0xFFFE0001},   {PRAMOLYT_PCTRL, 0x2144},
+                                            {PRAMOLYT_CMD, 0x13004000},   {PRAMOLYT_XY0, 0x00000000},   {PRAMOLYT_XY1, 0x00000000}};
+        const uint32_t *const entry = words[random_word() % 15];
         pramolyt_put_entry(lists[0] + 5 * k, entry[0], entry[1]);
     }
     for (int k = 0; k < 3; k++) {
         pramolyt_post(&board, &place, lists[0], 5 * entries, random_word() % entries, 1 + random_word() % 4);
-        pramolyt_run(&board, &steps, random_word() % 9, lists[0], 5 * entries, pixels[0], 4, pixels[1], 4);
+        pramolyt_run(&board, &steps, random_word() % 9, lists[0], 5 * entries, pixels[0], width * height, pixels[1],
+                     width * height);
     }
     if (random_word() % 8 == 0) {
         uint32_t *const word = (uint32_t *)&board + random_word() % PRAMOLYT_WORDS;

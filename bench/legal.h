@@ -12,17 +12,18 @@ static inline bool bit(uint32_t word, int number)
 
 static inline bool legal_command(uint32_t word)
 {
-    const bool solid = bit(word, 23), trnsp = bit(word, 22), stpl = bit(word, 21), key = bit(word, 20);
+    const bool solid = bit(word, 23), trnsp = bit(word, 22), stpl = bit(word, 21), key = bit(word, 20), apat = bit(word, 14);
     if (word == 0)
         return true;
-    if (word & 0x7FFF)
+    if (word & 0x3FFF)
         return false;
     switch (word >> 28) {
     case 1:
-        return !bit(word, 19) && !bit(word, 18) && (!trnsp || stpl || solid) && (!key || !(stpl || solid));
+        return !bit(word, 19) && !bit(word, 18) && (!trnsp || stpl || solid) && (!key || !(stpl || solid)) &&
+               (!apat || !(solid || stpl || key));
     case 2:
     case 5:
-        return !key && !bit(word, 16) && (solid || stpl);
+        return !key && !bit(word, 16) && !apat && (solid || stpl);
     default:
         return false;
     }

@@ -25,6 +25,9 @@ void baseline_make(struct baseline *engine, int32_t width, int32_t height)
 #if PRAMOLYT_VERSION_MAJOR == 0 && PRAMOLYT_VERSION_MINOR < 7
     engine->visits_hidden = true;
 #endif
+#if PRAMOLYT_VERSION_MAJOR == 0 && PRAMOLYT_VERSION_MINOR < 9
+    engine->lacks_tiles = true;
+#endif
     expect_done(pramolyt_make(&board, (size_t)width, (size_t)height, ENTRIES));
 }
 

@@ -24,24 +24,24 @@
 #include <stdint.h>
 
 #define PRAMOLYT_VERSION_MAJOR 0
-#define PRAMOLYT_VERSION_MINOR 8
+#define PRAMOLYT_VERSION_MINOR 9
 #define PRAMOLYT_VERSION_PATCH 0
-#define PRAMOLYT_VERSION "0.8.0"
+#define PRAMOLYT_VERSION "0.9.0"
 
 /* The edition of the record and of the calls' arguments. The archive's symbols carry it, so that a program compiled with a
  * header of another edition does not link. In C and C++ one writes the names without it. */
-#define PRAMOLYT_EDITION 1
-#define pramolyt_make pramolyt_make_r1
-#define pramolyt_post pramolyt_post_r1
-#define pramolyt_store pramolyt_store_r1
-#define pramolyt_feed_start_fields pramolyt_feed_start_fields_r1
-#define pramolyt_feed_fields pramolyt_feed_fields_r1
-#define pramolyt_window_write pramolyt_window_write_r1
-#define pramolyt_export pramolyt_export_r1
-#define pramolyt_import pramolyt_import_r1
-#define pramolyt_run pramolyt_run_r1
-#define pramolyt_pack pramolyt_pack_r1
-#define pramolyt_unpack pramolyt_unpack_r1
+#define PRAMOLYT_EDITION 2
+#define pramolyt_make pramolyt_make_r2
+#define pramolyt_post pramolyt_post_r2
+#define pramolyt_store pramolyt_store_r2
+#define pramolyt_feed_start_fields pramolyt_feed_start_fields_r2
+#define pramolyt_feed_fields pramolyt_feed_fields_r2
+#define pramolyt_window_write pramolyt_window_write_r2
+#define pramolyt_export pramolyt_export_r2
+#define pramolyt_import pramolyt_import_r2
+#define pramolyt_run pramolyt_run_r2
+#define pramolyt_pack pramolyt_pack_r2
+#define pramolyt_unpack pramolyt_unpack_r2
 
 #ifdef __cplusplus
 extern "C" {
@@ -110,6 +110,8 @@ typedef struct pramolyt_board {
     uint32_t pattern_place;
     uint32_t pattern_repeat;
     uint32_t last; /* the last point: x in the high half, y in the low half, each two's complement */
+    uint32_t tile_whole; /* flag: a fill with APAT is under way, and its tile lies wholly inside its source buffer */
+    uint8_t tile[8][16]; /* that tile, row by row, else zeros */
 } pramolyt_board;
 
 /* The feed record, for a list whose bytes come in pieces, as over a serial line. The caller keeps it between pieces. It is
@@ -188,7 +190,8 @@ uint32_t pramolyt_import(pramolyt_board *board, size_t number, const uint8_t *pi
 /* Runs the posted lists for at most `budget` steps (an entry fetched or a pixel visited): 0, 1, 2 or 9. It is 2 where
  * list_len is not 5 * entries, or display_len or virt_len not width * height. *steps is the steps done; with 0 it is the
  * lesser of the budget and the steps left in both lists. A blit visits only pixels inside the buffer and its clip, so it takes
- * width * height steps at most, and none where nothing of it shows; a line visits hidden pixels too.
+ * width * height steps at most, and none where nothing of it shows; a line visits hidden pixels too. A fill with APAT reads its
+ * tile when it is triggered, and the record holds it until the fill ends.
  *
  * 9 means that list memory or the record is not as the last call left it. board->next is the illegal entry, its list stays
  * active, and a further run of a step or more answers 9 again. To go on, write a legal entry over its 5 bytes, those from
@@ -260,8 +263,9 @@ static inline const char *pramolyt_answer_text(uint32_t answer)
     }
 }
 
-/* The library reads the record as so many words, in this order. */
-#define PRAMOLYT_WORDS 28
+/* The library reads the record as so many words, in this order; the tile is 32 of them, four bytes a word, the first one
+ * lowest. */
+#define PRAMOLYT_WORDS 61
 #if defined(__cplusplus) && __cplusplus >= 201103L
 #define PRAMOLYT_ASSERT(fact, text) static_assert(fact, text);
 #elif defined(__STDC_VERSION__) && __STDC_VERSION__ >= 201112L
@@ -300,6 +304,8 @@ PRAMOLYT_WORD(xy1, 24)
 PRAMOLYT_WORD(pattern_place, 25)
 PRAMOLYT_WORD(pattern_repeat, 26)
 PRAMOLYT_WORD(last, 27)
+PRAMOLYT_WORD(tile_whole, 28)
+PRAMOLYT_WORD(tile, 29)
 #undef PRAMOLYT_WORD
 PRAMOLYT_ASSERT(sizeof(pramolyt_feed_record) == 16, "pramolyt_feed_record has 16 bytes")
 PRAMOLYT_ASSERT(offsetof(pramolyt_feed_record, next) == 0, "next comes first")

@@ -48,15 +48,16 @@ enum {
 
 /* The flags of CMD. */
 enum {
-    PRAMOLYT_CMD_SOLID = 1 << 23,              /* FORE everywhere */
-    PRAMOLYT_CMD_TRNSP = 1 << 22,              /* a 0 draws nothing in place of BACK */
-    PRAMOLYT_CMD_STPL = 1 << 21,               /* from bits: a blit's source, a line's pattern */
-    PRAMOLYT_CMD_KEY = 1 << 20,                /* a source pixel equal to KEY draws nothing */
-    PRAMOLYT_CMD_NLST = 1 << 19,               /* a line without its last pixel */
-    PRAMOLYT_CMD_PRST = 1 << 18,               /* a line that sets its pattern back to PCTRL's start */
-    PRAMOLYT_CMD_CLIP = 1 << 17,               /* draws only from CLPTL to CLPBR */
-    PRAMOLYT_CMD_SOURCE_VIRTUAL = 1 << 16,     /* reads the virtual buffer, else display */
-    PRAMOLYT_CMD_DESTINATION_VIRTUAL = 1 << 15 /* draws into the virtual buffer, else display */
+    PRAMOLYT_CMD_SOLID = 1 << 23,               /* FORE everywhere */
+    PRAMOLYT_CMD_TRNSP = 1 << 22,               /* a 0 draws nothing in place of BACK */
+    PRAMOLYT_CMD_STPL = 1 << 21,                /* from bits: a blit's source, a line's pattern */
+    PRAMOLYT_CMD_KEY = 1 << 20,                 /* a source pixel equal to KEY draws nothing */
+    PRAMOLYT_CMD_NLST = 1 << 19,                /* a line without its last pixel */
+    PRAMOLYT_CMD_PRST = 1 << 18,                /* a line that sets its pattern back to PCTRL's start */
+    PRAMOLYT_CMD_CLIP = 1 << 17,                /* draws only from CLPTL to CLPBR */
+    PRAMOLYT_CMD_SOURCE_VIRTUAL = 1 << 16,      /* reads the virtual buffer, else display */
+    PRAMOLYT_CMD_DESTINATION_VIRTUAL = 1 << 15, /* draws into the virtual buffer, else display */
+    PRAMOLYT_CMD_APAT = 1 << 14                 /* a blit from a tile of 16 by 8 pixels, XY0 being its upper left corner */
 };
 
 /* The raster codes of CMD, by their names in X. */

@@ -14,9 +14,10 @@ typedef struct member {
 
 #define MEMBER(name) {#name, offsetof(pramolyt_board, name)}
 
-static const member flags[] = {MEMBER(active_taken), MEMBER(pending_taken), MEMBER(under_way)};
+static const member flags[] = {MEMBER(active_taken), MEMBER(pending_taken), MEMBER(under_way), MEMBER(tile_whole)};
+enum { FLAGS = sizeof flags / sizeof flags[0] };
 
-static uint8_t list[5 * ENTRIES], display[AREA], virt[AREA];
+static uint8_t list[5 * ENTRIES], display[AREA], virt[AREA], output[PRAMOLYT_PICTURE_MAX(WIDTH, HEIGHT)];
 static unsigned passed, failed;
 
 static void check(int fact, const char *call, const char *about)
@@ -62,6 +63,16 @@ static uint32_t run(pramolyt_board *b, uint64_t *steps, uint64_t budget)
     return pramolyt_run(b, steps, budget, list, sizeof list, display, sizeof display, virt, sizeof virt);
 }
 
+static uint32_t exporting(pramolyt_board *b, uint64_t *written, size_t number)
+{
+    return pramolyt_export(b, written, number, number == 0 ? display : virt, AREA, output, sizeof output);
+}
+
+static uint32_t importing(pramolyt_board *b, size_t number, const uint8_t *picture, size_t length)
+{
+    return pramolyt_import(b, number, picture, length, number == 0 ? display : virt, AREA);
+}
+
 /* what each register holds in the record that `busy` makes, by register number */
 static const uint32_t data[13] = {
     0x23220000, /* CMD: LINE, code 3, STPL, CLIP */
@@ -80,7 +91,7 @@ static const uint32_t data[13] = {
 };
 
 /* A record with both slots taken and a line under way, three of its pixels visited. A first list leaves the last point. No two
- * members hold the same word, but for the flags. */
+ * members before the tile hold the same word, but for the flags. */
 static pramolyt_board busy(void)
 {
     pramolyt_board b;
@@ -128,7 +139,7 @@ static void leaves(void)
         check(get(&b, registers[i].offset) == data[i], "run leaves", registers[i].name);
     for (i = 0; i < 3; i++)
         check(get(&b, rest[i].offset) == ends[i], "run leaves", rest[i].name);
-    for (i = 0; i < WORDS; i++)
+    for (i = 0; i < offsetof(pramolyt_board, tile_whole) / 4; i++)
         for (j = 0; j < i; j++)
             equal += get(&b, 4 * i) == get(&b, 4 * j);
     check(equal == 3, "busy", "no two members but the flags are equal");
@@ -140,7 +151,7 @@ static void malformed(const pramolyt_board *given, const char *about)
     static const uint8_t bytes[5] = {8, 0, 0, 0, 1};
     static uint8_t before[3][AREA];
     pramolyt_board b = *given;
-    uint64_t place = 77, steps = 77;
+    uint64_t place = 77, steps = 77, written = 77;
     memcpy(before[0], list, sizeof list);
     memcpy(before[1], display, sizeof display);
     memcpy(before[2], virt, sizeof virt);
@@ -151,6 +162,10 @@ static void malformed(const pramolyt_board *given, const char *about)
     check(pramolyt_window_write(&b, 0, 0, bytes, 5, display, sizeof display) == PRAMOLYT_MALFORMED,
           "window write answers 1", about);
     check(same(&b, given), "window write leaves the record", about);
+    check(exporting(&b, &written, 0) == PRAMOLYT_MALFORMED, "export answers 1", about);
+    check(same(&b, given) && written == 0, "export leaves the record", about);
+    check(importing(&b, 1, bytes, 5) == PRAMOLYT_MALFORMED, "import answers 1", about);
+    check(same(&b, given), "import leaves the record", about);
     check(run(&b, &steps, 1000) == PRAMOLYT_MALFORMED, "run answers 1", about);
     check(same(&b, given) && steps == 0, "run leaves the record", about);
     check(memcmp(before[0], list, sizeof list) == 0 && memcmp(before[1], display, sizeof display) == 0
@@ -166,8 +181,8 @@ static void distinct(void)
     for (i = 0; i < WORDS; i++)
         set(&b, 4 * i, 0x80000001 + 0x01010101 * i);
     malformed(&b, "distinct words");
-    for (f = 0; f < 8; f++) {
-        for (i = 0; i < 3; i++)
+    for (f = 0; f < 1u << FLAGS; f++) {
+        for (i = 0; i < FLAGS; i++)
             set(&b, flags[i].offset, f >> i & 1);
         malformed(&b, "distinct words, flags 0 or 1");
     }
@@ -179,7 +194,7 @@ static void bad_flags(void)
     static const uint32_t values[] = {2, 0xFFFFFFFF};
     const pramolyt_board good = busy();
     size_t i, j;
-    for (i = 0; i < 3; i++)
+    for (i = 0; i < FLAGS; i++)
         for (j = 0; j < 2; j++) {
             pramolyt_board b = good;
             set(&b, flags[i].offset, values[j]);
@@ -218,6 +233,9 @@ static const probe probes[] = {
     {MEMBER(xy1), 0x0001000A},
     {MEMBER(pattern_place), 12},
     {MEMBER(pattern_repeat), 8},
+    {MEMBER(tile_whole), 1},
+    {MEMBER(tile), 1},
+    {MEMBER(tile[7][12]), 0x80000000},
 };
 
 static void arrives(void)
@@ -264,6 +282,103 @@ static void draws(void)
     check(drawn(offsetof(pramolyt_board, clpbr), 0x0003002F) == 0, "pixel clipped", "clpbr");
 }
 
+/* A record with a fill of the whole board under way, five of its pixels visited. Its tile is at (x, 2) of virtual; the one at
+ * (3, 2) has the numbers from 1 to 128. */
+static pramolyt_board tiling(uint32_t x)
+{
+    pramolyt_board b;
+    uint64_t place = 77, steps = 77;
+    unsigned k;
+    memset(list, 0, sizeof list);
+    memset(display, 0, sizeof display);
+    memset(virt, 0, sizeof virt);
+    for (k = 0; k < 128; k++)
+        virt[(2 + k / 16) * WIDTH + 3 + k % 16] = (uint8_t)(k + 1);
+    check(pramolyt_make(&b, WIDTH, HEIGHT, ENTRIES) == PRAMOLYT_DONE, "make", "answer");
+    entry(0, 0, 0x13014000); /* CMD: BITBLT, code 3, from virtual, APAT */
+    entry(1, 9, x << 16 | 2);
+    entry(2, 10, WIDTH << 16 | HEIGHT);
+    entry(3, 12, 0);
+    check(pramolyt_post(&b, &place, list, sizeof list, 0, 4) == PRAMOLYT_DONE, "post", "tiled fill");
+    check(run(&b, &steps, 4 + 5) == PRAMOLYT_DONE && steps == 4 + 5 && b.under_way == 1, "run", "tiled fill");
+    return b;
+}
+
+static int no_tile(const pramolyt_board *b)
+{
+    static const uint8_t zeros[sizeof b->tile];
+    return b->tile_whole == 0 && memcmp(b->tile, zeros, sizeof zeros) == 0;
+}
+
+/* The tile as a run leaves it, row by row, the first byte of a word lowest; the library draws from it, and its bytes are
+ * free. */
+static void tiles(void)
+{
+    const pramolyt_board good = tiling(3);
+    pramolyt_board b = good;
+    uint64_t steps = 77;
+    size_t k, equal = 0;
+    for (k = 0; k < 128; k++)
+        equal += b.tile[k / 16][k % 16] == k + 1;
+    check(b.tile_whole == 1 && equal == 128, "run leaves", "tile");
+    check(get(&b, 4 * 29) == 0x04030201 && get(&b, 4 * 60) == 0x807F7E7D, "run leaves", "words of the tile");
+    memset(virt, 0, sizeof virt);
+    b.tile[0][5] = 0xEE;
+    check(run(&b, &steps, 1) == PRAMOLYT_DONE && steps == 1 && display[5] == 0xEE, "pixel", "tile[0][5]");
+    check(run(&b, &steps, AREA) == PRAMOLYT_DONE && steps == AREA - 6 && no_tile(&b), "run to the end", "no tile");
+    check(display[16] == 1 && display[AREA - 1] == 128, "pixels", "tile[0][0] and tile[7][15]");
+    b = good;
+    memset(b.tile, 0, sizeof b.tile);
+    check(run(&b, &steps, 0) == PRAMOLYT_DONE, "run of no steps", "a whole tile of zeros");
+}
+
+/* the calls that are no run leave a fill's tile in the record */
+static void tile_stays(void)
+{
+    static const uint8_t bytes[5] = {8, 0, 0, 0, 1};
+    const pramolyt_board good = tiling(3);
+    pramolyt_board b = good;
+    pramolyt_feed_record feed;
+    uint64_t place = 77, written = 77;
+    pramolyt_feed_start(&feed, 20);
+    check(pramolyt_store(&b, list, sizeof list, 9, bytes, 5) == PRAMOLYT_DONE && same(&b, &good), "store", "tile");
+    check(pramolyt_feed(&b, &feed, list, sizeof list, bytes, 5) == PRAMOLYT_DONE && same(&b, &good), "feed", "tile");
+    check(pramolyt_window_write(&b, 1, 0, bytes, 5, virt, sizeof virt) == PRAMOLYT_BUSY && same(&b, &good), "window write",
+          "tile");
+    check(exporting(&b, &written, 1) == PRAMOLYT_DONE && same(&b, &good), "export", "tile");
+    check(memcmp(output + written - AREA, virt, AREA) == 0, "export", "the buffer as lent");
+    check(importing(&b, 0, output, (size_t)written) == PRAMOLYT_BUSY && same(&b, &good), "import", "tile");
+    check(pramolyt_post(&b, &place, list, sizeof list, 9, 1) == PRAMOLYT_DONE && b.pending_taken == 1, "post", "pending list");
+    check(b.tile_whole == 1 && memcmp(b.tile, good.tile, sizeof b.tile) == 0, "post", "tile");
+}
+
+/* a tile that is not as the fill has it */
+static void bad_tiles(void)
+{
+    static const probe of_whole[] = {{MEMBER(tile_whole), 0},      {MEMBER(tile_whole), 2},    {MEMBER(cmd), 0x13010000},
+                                     {MEMBER(xy0), 0xFFFF0002},    {MEMBER(xy0), 0x00310002},  {MEMBER(xy0), 0x0003FFFF},
+                                     {MEMBER(xy0), 0x00030029},    {MEMBER(width), 18},        {MEMBER(height), 9}};
+    static const probe of_other[] = {{MEMBER(tile_whole), 1}, {MEMBER(tile), 1}, {MEMBER(xy0), 0x00300002}};
+    const pramolyt_board whole = tiling(3);
+    pramolyt_board b = tiling(49);
+    const pramolyt_board other = b;
+    uint64_t steps = 77;
+    size_t i;
+    check(no_tile(&b), "run leaves", "no tile that is not whole");
+    for (i = 0; i < sizeof of_whole / sizeof of_whole[0]; i++) {
+        b = whole;
+        set(&b, of_whole[i].in.offset, of_whole[i].word);
+        malformed(&b, of_whole[i].in.name);
+    }
+    for (i = 0; i < sizeof of_other / sizeof of_other[0]; i++) {
+        b = other;
+        set(&b, of_other[i].in.offset, of_other[i].word);
+        malformed(&b, of_other[i].in.name);
+    }
+    b = other;
+    check(run(&b, &steps, AREA) == PRAMOLYT_DONE && steps == AREA - 5 && display[0] == 0, "nothing drawn", "tile not whole");
+}
+
 /* no memory at all, place and steps, and a refused make */
 static void edges(void)
 {
@@ -296,6 +411,9 @@ int main(void)
     bad_flags();
     arrives();
     draws();
+    tiles();
+    tile_stays();
+    bad_tiles();
     edges();
     printf("%u passed, %u failed\n", passed, failed);
     return failed != 0;

@@ -337,7 +337,7 @@ static void other_opcodes_are_illegal(void)
     check(legal(PRAMOLYT_CMD, pramolyt_command(PRAMOLYT_NOOP, 0, 0)), "opcode", "NOOP");
     check(refused(PRAMOLYT_CMD, pramolyt_command(PRAMOLYT_BITBLT, 16, PRAMOLYT_CMD_SOLID)), "command", "raster code 16");
     check(refused(PRAMOLYT_CMD, pramolyt_command(PRAMOLYT_LINE, 3, 1u << 24 | PRAMOLYT_CMD_SOLID)), "command", "flag 24");
-    check(refused(PRAMOLYT_CMD, pramolyt_command(PRAMOLYT_LINE, 3, 1u << 14 | PRAMOLYT_CMD_SOLID)), "command", "flag 14");
+    check(refused(PRAMOLYT_CMD, pramolyt_command(PRAMOLYT_LINE, 3, 1u << 13 | PRAMOLYT_CMD_SOLID)), "command", "flag 13");
 }
 
 /* A board whose pictures have something to read: bits and pixels in virtual, 6666 in display. */
@@ -418,6 +418,37 @@ static void flag_of_the_clip(void)
     blit(PRAMOLYT_CMD_SOLID | PRAMOLYT_CMD_CLIP, pramolyt_size(WIDTH, HEIGHT), pramolyt_point(0, 0));
     check(draw() == 6, "pixels", "CLIP");
     check(shows(display, "........" ".555...." ".555...." "........"), "drawn", "CLIP, CLPTL and CLPBR");
+}
+
+/* A blit from a tile of virtual, in which column k of row j has 2 where k is 10 and 1 where j is 1, else 3. It is drawn at
+ * (9, 7), on a board that has room for the tile. */
+static void flag_of_the_tile(void)
+{
+    enum { SIDE = 18 };
+    static uint8_t seen[SIDE * SIDE], tile[SIDE * SIDE];
+    static const uint8_t expected[3][4] = {{3, 2, 3, 3}, {3, 2, 3, 3}, {1, 2, 1, 1}};
+    const uint32_t flags = PRAMOLYT_CMD_APAT | PRAMOLYT_CMD_SOURCE_VIRTUAL;
+    uint64_t place, steps;
+    size_t j, k, wrong = 0;
+    for (j = 0; j < 8; j++)
+        for (k = 0; k < 16; k++)
+            tile[(2 + j) * SIDE + 1 + k] = k == 10 ? 2 : j == 1 ? 1 : 3;
+    begin();
+    check(pramolyt_make(&board, SIDE, SIDE, ENTRIES) == PRAMOLYT_DONE, "make", "room for a tile");
+    put(PRAMOLYT_XY0, pramolyt_point(1, 2));
+    blit(flags, pramolyt_size(4, 3), pramolyt_point(9, 7));
+    check(pramolyt_post(&board, &place, memory, sizeof memory, 0, count()) == PRAMOLYT_DONE, "post", "APAT");
+    check(pramolyt_run(&board, &steps, 1000, memory, sizeof memory, seen, sizeof seen, tile, sizeof tile) == PRAMOLYT_DONE,
+          "run", "APAT");
+    check(steps == count() + 12, "pixels", "APAT");
+    for (j = 0; j < SIDE; j++)
+        for (k = 0; k < SIDE; k++) {
+            int drawn = 7 <= j && j < 10 && 9 <= k && k < 13;
+            wrong += seen[j * SIDE + k] != (drawn ? expected[j - 7][k - 9] : 0);
+        }
+    check(wrong == 0, "blit with", "APAT");
+    check(refused(PRAMOLYT_CMD, pramolyt_command(PRAMOLYT_LINE, 3, PRAMOLYT_CMD_SOLID | PRAMOLYT_CMD_APAT)), "APAT", "LINE");
+    check(refused(PRAMOLYT_CMD, pramolyt_command(PRAMOLYT_BITBLT, 3, PRAMOLYT_CMD_SOLID | PRAMOLYT_CMD_APAT)), "APAT", "SOLID");
 }
 
 /* Lines of the pattern 1 0: of three pixels, the second going on where the first ended. */
@@ -575,6 +606,7 @@ int main(void)
     flags_of_blits();
     flag_of_the_destination();
     flag_of_the_clip();
+    flag_of_the_tile();
     flags_of_lines();
     raster_codes();
     directions();

@@ -17,6 +17,9 @@
  * The rule for bits. X has the bits of a source buffer in a bitmap, eight columns a byte, the most significant first. As
  * the source of XCopyPlane it draws both colours, and nothing where the source lies outside it. As a clip mask it draws
  * the ones alone, and nothing outside. As a stipple it draws either way, but X repeats it and nothing is outside.
+ *
+ * The rule for tiles. X has the tile in a pixmap of 16 by 8 and, with FillTiled and the origin at (0, 0), repeats it from the
+ * upper left pixel on, as the engine does. Where the tile lies partly outside its buffer, nothing is drawn in X.
  */
 #include <X11/Xutil.h>
 #include <stdio.h>
@@ -88,7 +91,7 @@ static void report(const difference *found)
         const uint8_t *e = list + 5 * k;
         printf("%02X %02X %02X %02X %02X\n", e[0], e[1], e[2], e[3], e[4]);
     }
-    printf("X calls, with a GC of line_width 0 and graphics_exposures False, bits being a bitmap of the bytes that the "
+    printf("X calls, with a GC of line_width 0 and graphics_exposures False, bits and tiles being of the bytes that the "
            "pixmap began with:\n%s\n", calls);
 }
 
@@ -112,6 +115,8 @@ static kind kinds[] = {
     {.name = "BITBLT STPL TRNSP, FillStippled", .make = stipple_transparent},
     {.name = "BITBLT STPL TRNSP, clip mask", .make = stipple_through},
     {.name = "BITBLT STPL, glyphs, both styles", .make = glyph},
+    {.name = "BITBLT APAT, FillTiled", .make = tile_between},
+    {.name = "BITBLT APAT, one buffer, FillTiled", .make = tile_within},
     {.name = "LINE SOLID, XDrawLine", .make = line},
     {.name = "LINE SOLID NLST, XDrawLine", .make = line_not_last},
     {.name = "PLINE SOLID, XDrawLine", .make = polyline},

@@ -11,6 +11,7 @@ enum { SIDE = 2048, ENTRIES = 16 };
 enum { BITBLT = 1, LINE = 2, PLINE = 5 };
 enum { BOTTOM_TO_TOP = 1, RIGHT_TO_LEFT = 2 };
 enum { NO_CLIP, INSIDE, PARTLY_OFF, WHOLLY_OFF, REVERSED, FAR };
+enum { TILE_WIDTH = 16, TILE_HEIGHT = 8 };
 
 /* how X draws a blit of bits: XCopyPlane, XFillRectangle with the bits as stipple, or with the bits as clip mask */
 enum { COPY_PLANE, FILL_STIPPLED, FILL_THROUGH };
@@ -26,6 +27,7 @@ enum { RIGHT_BITS, LEAST_FIRST, NARROW, ZEROS_AROUND };
 #define PRST (1u << 18)
 #define CLIP (1u << 17)
 #define SOURCE (1u << 16)
+#define APAT (1u << 14)
 
 typedef struct point {
     int x, y;
@@ -47,12 +49,15 @@ typedef struct drawing {
     unsigned opcode, code, mask, fore, back;
     bool solid, trnsp, nlst, clipped;
     bool stpl; /* of a blit, for which x of a is then a bit's; a line has STPL where it has no SOLID */
+    bool apat; /* of a blit, for which a is then the upper left corner of the tile */
     unsigned unread; /* more bits of CMD, which tell X nothing */
     unsigned source, destination; /* 0 display, 1 virtual */
     box clip;
     point a, b; /* ends of a line; upper left corners of source and destination of a blit */
     unsigned width, height, direction;
     unsigned means, reading; /* in X, of a blit of bits */
+    unsigned columns, rows; /* in X, of a tile */
+    point origin; /* in X, where the tile lies that all others go by */
     bool backwards; /* X draws the line from B to A */
     dashes dashes; /* of a line without SOLID */
     struct drawing *before; /* the line before it in the same list, from whose end the pattern goes on, or NULL */
@@ -95,6 +100,7 @@ box common(box a, box b);
 box rectangle(const drawing *d, point corner);
 bool is_dashed(const drawing *d);
 bool bits_inside(const drawing *d);
+bool tile_inside(const drawing *d);
 int period(const dashes *p);
 int phase_after(const dashes *p, int pixels);
 int steps_of(const drawing *d);
@@ -121,6 +127,8 @@ void stipple_opaque(drawing *d);
 void stipple_transparent(drawing *d);
 void stipple_through(drawing *d);
 void glyph(drawing *d);
+void tile_between(drawing *d);
+void tile_within(drawing *d);
 void line(drawing *d);
 void line_not_last(drawing *d);
 void polyline(drawing *d);

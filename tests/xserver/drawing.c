@@ -54,6 +54,13 @@ bool bits_inside(const drawing *d)
     return holds(all, (point){b.left, b.top}) && holds(all, (point){b.right, b.bottom});
 }
 
+/* whether the tile lies wholly inside the source buffer */
+bool tile_inside(const drawing *d)
+{
+    const box all = board_box();
+    return holds(all, d->a) && holds(all, (point){d->a.x + TILE_WIDTH - 1, d->a.y + TILE_HEIGHT - 1});
+}
+
 bool is_dashed(const drawing *d)
 {
     return d->opcode != BITBLT && !d->solid;

@@ -38,7 +38,7 @@ static uint32_t cmd(const drawing *d)
 {
     return d->opcode << 28 | d->code << 24 | (d->solid ? SOLID : 0) | (d->trnsp ? TRNSP : 0) |
            (d->stpl || is_dashed(d) ? STPL : 0) | (d->nlst ? NLST : 0) | (d->clipped ? CLIP : 0) | d->unread |
-           d->source << 16 | d->destination << 15;
+           d->source << 16 | d->destination << 15 | (d->apat ? APAT : 0);
 }
 
 /* a blit of no pixels, which leaves the last point at its XY1 */
@@ -53,7 +53,7 @@ static void blit_entries(const drawing *d)
 {
     if (d->stpl)
         entry(BACK, d->back);
-    entry(XY0, corner(d, d->a));
+    entry(XY0, d->apat ? word(d->a.x, d->a.y) : corner(d, d->a));
     entry(XY2, word((int)d->width, (int)d->height));
     entry(XY3, d->direction);
     entry(CMD, cmd(d));

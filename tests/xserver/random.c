@@ -235,6 +235,38 @@ void glyph(drawing *d)
     stipple_either(d);
 }
 
+static int tile_edge(int last)
+{
+    if (last < 0 || one_in(8))
+        return between(least(last, 0) - 2, greatest(last, 0) + 2);
+    return between(0, last);
+}
+
+/* a blit from a tile that mostly lies inside, where there is room for it */
+static void random_tile(drawing *d)
+{
+    random_blit(d);
+    d->apat = true;
+    d->a = (point){tile_edge((int)width - TILE_WIDTH), tile_edge((int)height - TILE_HEIGHT)};
+    d->columns = TILE_WIDTH;
+    d->rows = TILE_HEIGHT;
+}
+
+void tile_between(drawing *d)
+{
+    random_tile(d);
+    d->source = 1 - d->destination;
+}
+
+/* a tile of the buffer that is drawn to, half of them near the pixels drawn */
+void tile_within(drawing *d)
+{
+    random_tile(d);
+    d->source = d->destination;
+    if (one_in(2))
+        d->b = (point){d->a.x + between(-(int)d->width, TILE_WIDTH), d->a.y + between(-(int)d->height, TILE_HEIGHT)};
+}
+
 static point random_end(void)
 {
     const int w = (int)width, h = (int)height, far = between(0, 23);

@@ -246,6 +246,24 @@ static void x_stippled(const server *s, const drawing *d)
     XFreePixmap(s->display, bitmap);
 }
 
+/* The tile is a pixmap of its own, made before the drawing, for which it is made anew as a bitmap is. */
+static void x_fill_tiled(const server *s, const drawing *d)
+{
+    if (!tile_inside(d))
+        return;
+    XGCValues values = {.fill_style = FillTiled, .ts_x_origin = d->origin.x, .ts_y_origin = d->origin.y};
+    values.tile = XCreatePixmap(s->display, DefaultRootWindow(s->display), d->columns, d->rows, 8);
+    XImage *image = image_of(s, d->source, 8);
+    XPutImage(s->display, values.tile, DefaultGC(s->display, DefaultScreen(s->display)), image, d->a.x, d->a.y, 0, 0,
+              d->columns, d->rows);
+    destroy_image(image);
+    XChangeGC(s->display, s->gc, GCFillStyle | GCTile | GCTileStipXOrigin | GCTileStipYOrigin, &values);
+    note("XChangeGC(fill_style FillTiled, tile %u by %u pixels from (%d, %d) of pixmap %u, ts_x_origin %d, ts_y_origin %d)\n",
+         d->columns, d->rows, d->a.x, d->a.y, d->source, d->origin.x, d->origin.y);
+    x_fill(s, d);
+    XFreePixmap(s->display, values.tile);
+}
+
 static void x_one(const server *s, const drawing *d)
 {
     set_gc(s, d);
@@ -256,6 +274,8 @@ static void x_one(const server *s, const drawing *d)
         x_fill(s, d);
     else if (d->stpl)
         x_stippled(s, d);
+    else if (d->apat)
+        x_fill_tiled(s, d);
     else
         x_copy(s, d);
 }

@@ -46,7 +46,7 @@ static drawing sample(const kind *k)
     d.fore = 0x55;
     d.back = 0xAA;
     d.nlst = k->make == line_not_last;
-    d.source = k->make == copy_between || (d.stpl && k->make != stipple_within);
+    d.source = k->make == copy_between || k->make == tile_between || (d.stpl && k->make != stipple_within);
     d.destination = 0;
     d.clip = (box){10, 10, 30, 30};
     d.width = d.height = 31;
@@ -284,6 +284,47 @@ static void misread_outside(const server *s, tally *zeros, tally *again, tally *
     }
 }
 
+/* A blit to inside the board, of all columns and rows of a tile with room for 32 by 32 pixels. It begins with neither the
+ * first column nor the first row of the tile. */
+static drawing small_tile(void)
+{
+    drawing d = {.opcode = BITBLT, .apat = true, .code = GXxor, .mask = 0xFF, .columns = TILE_WIDTH, .rows = TILE_HEIGHT};
+    d.a = (point){between(0, (int)width - 32), between(0, (int)height - 32)};
+    d.b = (point){between(1, 15), between(1, 7)};
+    d.width = (unsigned)between(TILE_WIDTH, 40);
+    d.height = (unsigned)between(TILE_HEIGHT, 40);
+    d.source = (unsigned)between(0, 1);
+    d.direction = (unsigned)between(0, 3);
+    return d;
+}
+
+/* columns and rows counted from the corner of the blit, and from that of the tile; a tile of 8 by 8 and of 32 by 32 pixels;
+ * and one that is partly outside drawn as the nearest inside */
+static void misread_tiles(const server *s, tally *t)
+{
+    for (unsigned k = 0; k < 500; k++) {
+        drawing d = small_tile();
+        drawing corner = d, place = d, small = d, large = d;
+        corner.origin = d.b;
+        place.origin = d.a;
+        small.columns = small.rows = 8;
+        large.columns = large.rows = 32;
+        must_differ(s, &t[0], &d, &corner);
+        if (d.a.x % TILE_WIDTH != 0 || d.a.y % TILE_HEIGHT != 0)
+            must_differ(s, &t[1], &d, &place);
+        must_differ(s, &t[2], &d, &small);
+        must_differ(s, &t[3], &d, &large);
+        if (one_in(2))
+            d.a.x = one_in(2) ? -1 : (int)width - TILE_WIDTH + 1;
+        else
+            d.a.y = one_in(2) ? -1 : (int)height - TILE_HEIGHT + 1;
+        drawing inside = d;
+        inside.a.x = least(greatest(d.a.x, 0), (int)width - TILE_WIDTH);
+        inside.a.y = least(greatest(d.a.y, 0), (int)height - TILE_HEIGHT);
+        must_differ(s, &t[4], &d, &inside);
+    }
+}
+
 static void print_tally(const tally *t)
 {
     printf("%-57s %8lu %8lu\n", t->name, t->cases, t->met);
@@ -301,10 +342,16 @@ static void compare_misread(const server *s)
         {"BITBLT STPL, bits outside come round again: differs", 0, 0},
         {"BITBLT STPL, both where none is outside: agrees", 0, 0},
         {"BITBLT STPL over its source, the other direction: differs", 0, 0},
+        {"BITBLT APAT, counted from the corner of the blit: differs", 0, 0},
+        {"BITBLT APAT, counted from the corner of the tile: differs", 0, 0},
+        {"BITBLT APAT, a tile of 8 by 8: differs", 0, 0},
+        {"BITBLT APAT, a tile of 32 by 32: differs", 0, 0},
+        {"BITBLT APAT, a tile partly outside is drawn: differs", 0, 0},
     };
     misread_bits(s, t);
     misread_outside(s, &t[5], &t[6], &t[7]);
     wrong_directions(s, &t[8], true);
+    misread_tiles(s, &t[9]);
     for (unsigned k = 0; k < sizeof t / sizeof t[0]; k++)
         print_tally(&t[k]);
 }

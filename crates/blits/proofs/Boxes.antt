@@ -20,6 +20,7 @@ use Rattle.blits.specs.Blits.{reads, sourcePixels, sourceWidth, visited,
 use Rattle.blits.specs.Ranges.{visibleColumns, visibleRows, partOf}
 use Rattle.blits.specs.Places.{targetRow, sourceRow, leftEdge, placeAt}
 use Rattle.blits.specs.Rows.{rowOf, rowAt, boxOf, RowsFit, BoxFits}
+use Rattle.blits.specs.Tiled.{BoxInside}
 use Rattle.blits.specs.declared.Blit.{Blit}
 use Rattle.blits.specs.declared.Paint.{Paint}
 use Rattle.blits.specs.declared.ranges.Range.{Range}
@@ -27,7 +28,7 @@ use Rattle.blits.proofs.Bounds.{source-small, rows-far, x-below, y-belo
 use Rattle.blits.proofs.Visits.{y-from}
 use Rattle.blits.proofs.Axes.{RowIn, row-of, row-by}
 use Rattle.blits.proofs.Drawn.{from-least, past-most, before-from, after-past}
-use Rattle.blits.proofs.Rooms.{edge-below, away-below, Inside, inside-of, none-in-row, none-in-columns, target-room, source-room, whole-row}
+use Rattle.blits.proofs.Rooms.{edge-below, away-below, Inside, inside-of, none-in-row, none-in-columns, target-room, source-columns, source-room, whole-row}
 
 -- a row of no pixels
 no-pixels : (paint : Paint) (back : Bool) (other : List ℕ) (at from : ℕ) (l : List ℕ) → rowOf paint back other at from 0 l ≡ l
@@ -113,7 +114,7 @@ module _ (corner width direction a z top bottom : ℕ) (small : (k : ℕ) → k 
   abbrev edge : ℕ
   edge = leftEdge (rightToLeft direction) (pointOf corner .x) a z
 
-  row-on : (k : ℕ) → k < bottom - top
+  pub row-on : (k : ℕ) → k < bottom - top
       → away (bottomToTop direction) (placeAt corner width direction a z top) (width * k) ≡ placeAt corner width direction a z (top + k)
   row-on k h =
       let same : top + 0 ≡ top = omega arith in
@@ -216,6 +217,17 @@ module _ (b : Blit) (other : List ℕ) (row rows c m own : ℕ) (fits : (r : ℕ
             rows-fit (b .from) (sourceWidth b) (b .direction) a z top bottom small (source-visible t) (sourcePixels (b .paint) own)
             (source-small (b .paint) (b .width) wide) (omega (arith, some, columns-small)) lines rows-small
             (λ k h. source-room b other (top + k) c m own (row-fits k h) a z begins stops some (row-in k h) t);
+      }
+
+  -- what is read is in the source
+  pub box-inside : reads (b .paint) ≡ true → BoxInside (sourceWidth b) (b .height) (b .from) (b .direction) across down
+  box-inside t =
+      record {
+        columns =
+            λ some lines.
+            let first : 0 < bottom - top = omega arith in
+            source-columns b other (top + 0) c m own (row-fits 0 first) a z begins stops some (row-in 0 first) t;
+        rows = λ k h. row-in k h .source t;
       }
 
   abbrev boxRow : ℕ → List ℕ → List ℕ

@@ -11,3 +11,4 @@ pub mod Rowed
 pub mod Loops
 pub mod Boxes
 pub mod RowBoxes
+pub mod Planes

@@ -137,18 +137,24 @@ module _ (b : Blit) (other : List ℕ) (r c m own : ℕ) (f : RowFits b r c m (l
               (omega (arith, row .low, row .high, inside .top-in, inside .bottom-in)),
         )
 
-    pub source-room : reads (b .paint) ≡ true → sourcePlace + (z - a) ≤ sourcePixels (b .paint) own
-    source-room t =
+    pub source-columns : reads (b .paint) ≡ true →
+        let edge = leftEdge back (pointOf (b .from) .x) a z in (origin ≤ edge) × (edge + (z - a) ≤ origin + sourceWidth b)
+    source-columns t =
         let x = pointOf (b .from) .x in
         let p = first .source t in
-        let q = last .source t in
-        let to = edge-to back x a z (origin + sourceWidth b) (x-from (b .from)) z-small some (p .1) (q .1) in
+        let q = last .source t in (
+          edge-from back x a z origin some (p .0) (q .0),
+          edge-to back x a z (origin + sourceWidth b) (x-from (b .from)) z-small some (p .1) (q .1),
+        )
+
+    pub source-room : reads (b .paint) ≡ true → sourcePlace + (z - a) ≤ sourcePixels (b .paint) own
+    source-room t =
         let here = row .source t in
         omega (
           arith,
           source-area (b .paint) (b .width) (b .height) own (f .own-area),
-          room (sourceWidth b) (b .height) (sourceRow b r) (leftEdge back x a z) (z - a) (omega (arith, some)) (edge-from back x a z origin some (p .0) (q .0)) to
-              (omega (arith, here .0, here .1)),
+          room (sourceWidth b) (b .height) (sourceRow b r) (leftEdge back (pointOf (b .from) .x) a z) (z - a) (omega (arith, some)) (source-columns t .0)
+              (source-columns t .1) (omega (arith, here .0, here .1)),
         )
 
     pub whole-row : (at from : ℕ) → at ≡ targetPlace → (reads (b .paint) ≡ true → from ≡ sourcePlace) → (l : List ℕ)

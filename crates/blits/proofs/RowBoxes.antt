@@ -1,6 +1,7 @@
 -- m visits of one row, and whole rows from the first on, as boxes.
 -- Assumes nothing.
 use mathlib.Core.Path.{_≡_, refl, ap, sym, subst, _∙_}
+use mathlib.Core.Bool.{true}
 use mathlib.Core.List.{List}
 use Prim.Native.Nat.{ℕ, suc, _+_, _-_, _*_, _≤_, _<_}
 use native.Mathlib.Nat.{mul-suc, mul-le-mul-left}
@@ -12,16 +13,17 @@ use Rattle.lemmas.proofs.Booleans.{by-cases}
 use Rattle.lemmas.specs.Turns.{inTurn}
 use Rattle.lemmas.proofs.Turns.{turn-none, turn-more, turn-agree, turn-rows}
 use Rattle.geometry.specs.Blit.{widthOf, heightOf}
-use Rattle.blits.specs.Blits.{visited, Fitting, RowFits}
+use Rattle.blits.specs.Blits.{reads, sourceWidth, visited, Fitting, RowFits}
 use Rattle.blits.specs.Ranges.{visibleColumns, visibleRows, visibleOf, partOf}
 use Rattle.blits.specs.Rows.{boxOf, BoxFits}
+use Rattle.blits.specs.Tiled.{BoxInside}
 use Rattle.blits.specs.declared.Blit.{Blit}
 use Rattle.blits.specs.declared.ranges.Range.{Range}
 use Rattle.blits.specs.declared.ranges.Visible.{Visible}
 use Rattle.blits.proofs.Loops.{row-below}
 use Rattle.blits.proofs.Drawn.{past-most}
 use Rattle.blits.proofs.Rooms.{z-small}
-use Rattle.blits.proofs.Boxes.{box-fits, box-visits}
+use Rattle.blits.proofs.Boxes.{box-fits, box-inside, box-visits}
 
 -- m visits of one row
 module _ {b : Blit} (other : List ℕ) {row c m own : ℕ} (f : RowFits b row c m (length other) own) {visible : Visible} (same : visible ≡ visibleOf b)
@@ -42,6 +44,9 @@ module _ {b : Blit} (other : List ℕ) {row c m own : ℕ} (f : RowFits b row c 
       (omega (arith, past-most (row + 1) (visibleRows b .past) (down .past) (ap (λ s. s .past) row-lines) .0, f .row-small))
       (z-small b other row c m own f (across .from) (across .past) (ap (λ s. s .from) row-columns) (ap (λ s. s .past) row-columns))
       (f .other-area ∙ sym (f .own-area))
+
+  pub row-box-inside : reads (b .paint) ≡ true → BoxInside (sourceWidth b) (b .height) (b .from) (b .direction) across down
+  row-box-inside = box-inside b other row 1 c m own only-row across down row-columns row-lines
 
   pub row-box-visits : (l k : List ℕ) → k ≡ boxOf (b .paint) (b .width) (b .to) (b .from) (b .direction) across down other l
       → k ≡ inTurn (λ i. visited b other (widthOf (b .size) * row + c + i)) m l
@@ -93,6 +98,9 @@ module _ (b : Blit) (other : List ℕ) (rows own : ℕ) (some : 0 < widthOf (b .
       (omega (arith, past-most (0 + rows) (visibleRows b .past) (down .past) (ap (λ s. s .past) whole-lines) .0, rows-most))
       (omega (arith, past-most (0 + w) (visibleColumns b .past) (across .past) (ap (λ s. s .past) whole-columns) .0, small))
       (f .other-area ∙ sym (f .own-area))
+
+  pub whole-box-inside : reads (b .paint) ≡ true → BoxInside (sourceWidth b) (b .height) (b .from) (b .direction) across down
+  whole-box-inside = box-inside b other 0 rows 0 w own each-row across down whole-columns whole-lines
 
   pub whole-box-visits : (l k : List ℕ) → k ≡ boxOf (b .paint) (b .width) (b .to) (b .from) (b .direction) across down other l
       → k ≡ inTurn (visited b other) (w * rows) l

@@ -24,7 +24,7 @@ first-place : (up : Bool) (width at : ℕ) → at ≡ away up at (width * 0)
 first-place true width at = omega arith
 first-place false width at = omega arith
 
-on-from : (up : Bool) (at p q width : ℕ) → q ≡ p + width → away up (away up at p) width ≡ away up at q
+pub on-from : (up : Bool) (at p q width : ℕ) → q ≡ p + width → away up (away up at p) width ≡ away up at q
 on-from true at p q width h = omega arith
 on-from false at p q width h = omega arith
 

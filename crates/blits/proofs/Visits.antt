@@ -44,10 +44,10 @@ not-then true h = absurd (h refl)
 not-then false h = refl
 
 -- visit j of row r, both counted from the corner
-at-column : (w r j : ℕ) → j < w → (w * r + j) % w ≡ j
+pub at-column : (w r j : ℕ) → j < w → (w * r + j) % w ≡ j
 at-column w r j h = mul-add-mod-self-left w r j ∙ mod-eq-of-lt h
 
-at-row : (w r j : ℕ) → j < w → (w * r + j) / w ≡ r
+pub at-row : (w r j : ℕ) → j < w → (w * r + j) / w ≡ r
 at-row w r j h =
     let none : j / w ≡ 0 = div-eq-of-lt h in
     mul-add-div {m = w} (omega arith) r j ∙ ap (λ x. r + x) none ∙ (let e : r + 0 ≡ r = omega arith in e)

@@ -3,3 +3,4 @@ pub mod Ranges
 pub mod Places
 pub mod Rows
 pub mod Bits
+pub mod Tiled

@@ -1,12 +1,13 @@
 // Many pixels of a blit at once, row by row (document 01, Pixels): which of them are visible (ranges.rt), where they lie
 // (places.rt), and the loops over rows (row_loops.rt). Where the source is bits: its loops (bit_loops.rt), one row (bits.rt),
-// and the pixels of one byte (eights.rt).
+// and the pixels of one byte (eights.rt). Where it is a tile: tiled.rt.
 mod bit_loops;
 mod bits;
 mod eights;
 mod places;
 mod ranges;
 mod row_loops;
+mod tiled;
 
 ghost use mathlib.Core.Path.{_≡_};
 ghost use Prim.Native.Nat.{_+_, _*_, _≤_, _<_};
@@ -31,6 +32,8 @@ use numbers::saturating_sub;
 use raster::Pen;
 use rows::Mix;
 use stipples::Stipple;
+pub use tiled::Tiling;
+pub use tiled::draw_tiled;
 
 // What a blit is painted from: a pen, bytes or bits of the other buffer, or those of the buffer that is drawn on.
 pub enum Paint {

@@ -19,7 +19,7 @@ pub(crate) fn along(back: bool, c: usize, k: usize) -> usize
 }
 
 // The left edge of columns a to before z.
-fn left_edge(back: bool, x: usize, a: usize, z: usize) -> usize
+pub(crate) fn left_edge(back: bool, x: usize, a: usize, z: usize) -> usize
     requires { ⌜ (65536 ≤ x) × (x < 131072) × (a < z) × (z ≤ 65536) ⌝ }
     ensures { λ r. ⌜ r ≡ leftEdge back x a z ⌝ }
 {

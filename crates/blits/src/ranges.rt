@@ -25,7 +25,7 @@ pub struct Visible {
 }
 
 // The j whose pixel, j from c on or back, is at lo <= x < hi.
-fn range_of(back: bool, c: usize, lo: usize, hi: usize) -> Range
+pub(crate) fn range_of(back: bool, c: usize, lo: usize, hi: usize) -> Range
     requires { ⌜ c < 131072 ⌝ }
     ensures { λ r. ⌜ r ≡ rangeOf back c lo hi ⌝ }
 {

@@ -27,7 +27,7 @@ use Rattle.board.specs.Runs.{Outcome, byNext, runOf}
 use Rattle.board.specs.Left.{toCome, stepsLeft, LesserOfBudgetAndLeft, EndsIdle, StaysBusy}
 use Rattle.board.specs.declared.record.Board.{Board}
 use Rattle.board.proofs.Forms.{Good, good-of, none-waits, at-rest, pixels-of, next-below}
-use Rattle.board.proofs.Keeps.{followed, stays-well-formed, run-well, settled-sizes, settled-engine}
+use Rattle.board.proofs.Keeps.{followed, stays-well-formed, run-well, settled-sizes, settled-engine, settled-fill}
 
 -- settling leaves the rest: the next list takes its turn with no step
 pub settled-to-come : (l : List ℕ) (b : Board) → toCome l (settledOf b) ≡ toCome l b
@@ -42,14 +42,14 @@ settled-to-come l b =
     ∙ ap (λ es. es ++ next) (sym (ended-rest l (b .active .cursor) (b .engine .«under_way») h)))
     (λ h. ap (toCome l) (sym (second-of t (followed b) b h)))
 
-pub settled-scene : (b : Board) (d v : List ℕ) → scene (settledOf b .engine) d v ≡ scene (b .engine) d v
-settled-scene b d v = ap (λ e. scene e d v) (settled-engine b)
+pub settled-scene : (b : Board) (d v : List ℕ) → scene (settledOf b .engine) (settledOf b .fill) d v ≡ scene (b .engine) (b .fill) d v
+settled-scene b d v = ap₂ (λ e f. scene e f d v) (settled-engine b) (settled-fill b)
 
 -- the steps left after a step of the active list
 moved-left : (l : List ℕ) (m : Machine) (c : Cursor) (s : Scene)
     → stepsLeft l (movedTo m c s) ≡ stepsOf (m .board .sizes .extent) s (restOf l c ++ restOf l (cursorOn (m .board .pending .span)))
 moved-left l m c s =
-    let b = withSteps (m .board) c (s .engine) in
+    let b = withSteps (m .board) c (s .engine) (s .fill) in
     let z = settled-sizes b in
     (λ i. stepsOf (z i .extent) (settled-scene b (s .display) (s .virt) i) (settled-to-come l b i))
 

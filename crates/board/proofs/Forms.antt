@@ -6,7 +6,7 @@ use Prim.Native.Nat.{_<_}
 use borrow.Author.Tests.{not-true}
 use Rattle.lemmas.proofs.Booleans.{by-cases, both, and-left, and-right, or-first}
 use Rattle.commands.specs.Visits.{countOf}
-use Rattle.commands.specs.Record.{engineOk}
+use Rattle.commands.specs.Record.{engineOk, fillOk}
 use Rattle.commands.proofs.Sound.{engine-pixels}
 use Rattle.slots.specs.Slots.{sizesOk, slotOk, activeOk}
 use Rattle.slots.proofs.Slotted.{Fetching, Visiting, fetching-of, visiting-of, active-cursor}
@@ -16,6 +16,7 @@ use Rattle.board.specs.declared.record.Board.{Board}
 pub record Good (b : Board) : Type 0 where
   pub sizes : sizesOk (b .sizes) ≡ true
   pub engine : engineOk (b .sizes .extent) (b .engine) ≡ true
+  pub fill : fillOk (b .sizes .extent) (b .engine) (b .fill) ≡ true
   pub active : activeOk (b .active) (b .sizes .entries) (b .engine .«under_way») ≡ true
   pub pending : slotOk (b .pending) (b .sizes .entries) ≡ true
   pub order : orderOk b ≡ true
@@ -25,22 +26,25 @@ unfolding wellFormed
 good-of b h =
     let z = sizesOk (b .sizes) in
     let e = engineOk (b .sizes .extent) (b .engine) in
+    let f = fillOk (b .sizes .extent) (b .engine) (b .fill) in
     let a = activeOk (b .active) (b .sizes .entries) (b .engine .«under_way») in
     let p = slotOk (b .pending) (b .sizes .entries) in
-    let four = and-left (z && e && a && p) (orderOk b) h in
-    let three = and-left (z && e && a) p four in
-    let two = and-left (z && e) a three in
+    let five = and-left (z && e && f && a && p) (orderOk b) h in
+    let four = and-left (z && e && f && a) p five in
+    let three = and-left (z && e && f) a four in
+    let two = and-left (z && e) f three in
     record {
       sizes = and-left z e two;
       engine = and-right z e two;
-      active = and-right (z && e) a three;
-      pending = and-right (z && e && a) p four;
-      order = and-right (z && e && a && p) (orderOk b) h;
+      fill = and-right (z && e) f three;
+      active = and-right (z && e && f) a four;
+      pending = and-right (z && e && f && a) p five;
+      order = and-right (z && e && f && a && p) (orderOk b) h;
     }
 
 pub well-of : (b : Board) → Good b → wellFormed b ≡ true
 unfolding wellFormed
-well-of b g = both (both (both (both (g .sizes) (g .engine)) (g .active)) (g .pending)) (g .order)
+well-of b g = both (both (both (both (both (g .sizes) (g .engine)) (g .fill)) (g .active)) (g .pending)) (g .order)
 
 -- what the parts are to one another
 module _ (b : Board) (g : Good b) where

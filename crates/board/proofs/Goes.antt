@@ -9,14 +9,17 @@ use native.Mathlib.Omega.{arith}
 use borrow.Author.Tests.{ltb-true, ltb-false}
 use lib.Dec.{ltb}
 use lib.ListN.{length}
-use Rattle.lemmas.proofs.Booleans.{by-cases, second-of}
+use Rattle.lemmas.proofs.Booleans.{by-cases, first-of, second-of}
 use Rattle.lists.specs.Spans.{endOf}
 use Rattle.lists.specs.Cursors.{fetchedOf, endedOf}
 use Rattle.lists.specs.declared.cursors.Next.{Next}
 use Rattle.lists.specs.declared.cursors.Next.the-variants.{Ended, Visit, Take, Broken}
 use Rattle.lists.proofs.Fetches.{next-ended, ended-next}
-use Rattle.commands.specs.Steps.{visitOf, takenOf}
-use Rattle.leaps.specs.ListRuns.{Reached, stopped, longer, byStep, runFrom, listRun}
+use Rattle.tiles.specs.Tiles.{wholeAt, noFill, Sized}
+use Rattle.commands.specs.Hatching.{hatches}
+use Rattle.commands.specs.Steps.{Scene, scene, visitOf, takenOf}
+use Rattle.commands.proofs.Held.{no-fill-elsewhere}
+use Rattle.leaps.specs.ListRuns.{Reached, stopped, longer, byStep, runFrom, heldBy, listRun}
 use Rattle.leaps.proofs.Running.{by-next, run-fits, Within, within}
 use Rattle.answers.specs.Reports.{report}
 use Rattle.slots.proofs.Slotted.{limits-of, active-inside, active-end, live-of}
@@ -157,28 +160,45 @@ list-leads (suc budget) l m w e = go (list-leads budget l) (nextOn l (m .board))
     go rest Ended h = subst (Leads l m) (sym (by Ended h)) (leads-none l m false w e (λ f. absurd (false≢true f)))
     go rest Visit h =
         let s = visitOf (b .sizes .extent) (sceneOf m) in
-        let o = machine (withSteps b (b .active .cursor) (s .engine)) (s .display) (s .virt) in
+        let o = machine (withSteps b (b .active .cursor) (s .engine) (s .fill)) (s .display) (s .virt) in
         subst (Leads l m) (sym (by Visit h))
         (leads-more l m o Visit (onList budget l o) h (λ _. refl) w refl refl (rest o) (ended-list budget l o))
     go rest (Take x) h =
         let s = takenOf (b .sizes .extent) (sceneOf m) x in
-        let o = machine (withSteps b (fetchedOf (b .active .cursor)) (s .engine)) (s .display) (s .virt) in
+        let o = machine (withSteps b (fetchedOf (b .active .cursor)) (s .engine) (s .fill)) (s .display) (s .virt) in
         subst (Leads l m) (sym (by (Take x) h))
         (leads-more l m o (Take x) (onList budget l o) h (λ _. refl) w refl refl (rest o) (ended-list budget l o))
     go rest Broken h = subst (Leads l m) (sym (by Broken h)) (leads-none l m true w e (λ _. h))
 
+-- what a run of the list takes from a well formed record is all that it holds
+abbrev heldIn : Machine → Scene
+heldIn m = scene (m .board .engine) (heldBy (m .board .engine) (m .board .fill)) (m .display) (m .virt)
+
+held-whole : (m : Machine) → wellFormed (m .board) ≡ true → Sized (m .board .fill .tile) → heldIn m ≡ sceneOf m
+held-whole m w sized =
+    let b = m .board in
+    let e = b .engine in
+    ap (λ f. scene e f (m .display) (m .virt))
+    (by-cases (hatches e) (λ t. sym (first-of (hatches e) (b .fill) noFill t))
+    (λ t.
+    let none = no-fill-elsewhere (b .sizes .extent) e (b .fill) sized (good-of b w .fill) (ap (λ t. t && wholeAt (b .sizes .extent) (e .registers .xy0)) t) in
+    sym (second-of (hatches e) (b .fill) noFill t) ∙ sym none))
+
 -- what the steps of the active list answer
 pub leap-is : (budget : ℕ) (l : List ℕ) (m : Machine) (r : Reached) (b : Board) → wellFormed (m .board) ≡ true → m .board .active .taken ≡ true
-    → 1 ≤ budget → r ≡ listRun budget l (m .board .sizes .extent) (m .board .active .cursor) (sceneOf m)
-    → b ≡ settledOf (withSteps (m .board) (r .cursor) (r .after .engine))
+    → 1 ≤ budget → Sized (m .board .fill .tile)
+    → r ≡ listRun budget l (m .board .sizes .extent) (m .board .active .cursor) (heldIn m)
+    → b ≡ settledOf (withSteps (m .board) (r .cursor) (r .after .engine) (r .after .fill))
     → Leaped l m budget (r .steps) (r .broken) (machine b (r .after .display) (r .after .virt))
-leap-is budget l m r b w t asked is to =
+leap-is budget l m r b w t asked sized is to =
     let a = m .board .active in
     let z = m .board .sizes in
     let u = m .board .engine .«under_way» in
     let g = good-of (m .board) w in
     let small : endOf (a .cursor .span) < 4294967296 = omega (arith, active-inside a (z .entries) u (g .active), limits-of z (g .sizes) .entries-most) in
-    let same : r ≡ onList budget l m = is ∙ sym (run-fits l (z .extent) budget (a .cursor) (sceneOf m) small) in
+    let same : r ≡ onList budget l m =
+    is ∙ ap (listRun budget l (z .extent) (a .cursor)) (held-whole m w sized)
+    ∙ sym (run-fits l (z .extent) budget (a .cursor) (sceneOf m) small) in
     let live = live-of a (z .entries) u (g .active) t in
     let on = subst (Leads l m) (sym same) (list-leads budget l m w live) in
     let kept = subst (λ r. Within budget (a .cursor) (sceneOf m) r) (sym same) (within l (z .extent) budget (a .cursor) (sceneOf m)) in

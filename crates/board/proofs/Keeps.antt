@@ -15,9 +15,10 @@ use Rattle.lists.specs.declared.cursors.Next.the-variants.{Ended, Visit, Take, 
 use Rattle.lists.proofs.Fetches.{chosen}
 use Rattle.lists.proofs.Rests.{ended-resting}
 use Rattle.commands.specs.Steps.{Scene, visitOf, takenOf}
-use Rattle.commands.specs.Record.{engineOk}
+use Rattle.commands.specs.Record.{engineOk, fillOk}
 use Rattle.commands.proofs.Visiting.{keeps-lengths}
 use Rattle.commands.proofs.Sound.{visits-stay-ok, entries-stay-ok}
+use Rattle.commands.proofs.Held.{visits-keep-fill, entries-keep-fill}
 use Rattle.slots.specs.Slots.{sizesOk, emptySlot, activeOn, slotOk, activeOk}
 use Rattle.slots.proofs.Slotted.{Visiting, active-span, active-end, begins, stays-active}
 use Rattle.board.specs.Steps.{Machine, nextOn, withSteps, settledOf, movedTo, sceneOf, actOf, stepOf}
@@ -31,6 +32,7 @@ use Rattle.board.proofs.Forms.{Good, good-of, well-of, active-of, next-
 record Stepped (b : Board) : Type 0 where
   sizes : sizesOk (b .sizes) ≡ true
   engine : engineOk (b .sizes .extent) (b .engine) ≡ true
+  fill : fillOk (b .sizes .extent) (b .engine) (b .fill) ≡ true
   taken : b .active .taken ≡ true
   span : spanOk (b .active .cursor .span) (b .sizes .entries) ≡ true
   pending : slotOk (b .pending) (b .sizes .entries) ≡ true
@@ -38,7 +40,7 @@ record Stepped (b : Board) : Type 0 where
 
 -- the record with the pending list in the active slot
 abbrev pub followed : Board → Board
-followed b = record { sizes = b .sizes; active = activeOn (b .pending); pending = emptySlot; engine = b .engine }
+followed b = record { sizes = b .sizes; active = activeOn (b .pending); pending = emptySlot; engine = b .engine; fill = b .fill }
 
 -- the list goes on
 stays : (b : Board) → Stepped b → endedOf (b .active .cursor) (b .engine .«under_way») ≡ false → Good b
@@ -46,6 +48,7 @@ stays b s h =
     record {
       sizes = s .sizes;
       engine = s .engine;
+      fill = s .fill;
       active = stays-active (b .active) (b .sizes .entries) (b .engine .«under_way») (s .taken) (s .span) (s .visiting) h;
       pending = s .pending;
       order = ap (λ t. t || (not (b .pending .taken) && not (b .engine .«under_way»))) (s .taken);
@@ -57,6 +60,7 @@ follows b s u =
     record {
       sizes = s .sizes;
       engine = s .engine;
+      fill = s .fill;
       active = subst (λ u. activeOk (activeOn (b .pending)) (b .sizes .entries) u ≡ true) (sym u) (begins (b .pending) (b .sizes .entries) (s .pending));
       pending = refl;
       order = or-by (b .pending .taken) (true && not (b .engine .«under_way»)) (λ t. ap not u);
@@ -70,15 +74,17 @@ settle-good b s =
     (λ h. subst Good (first-of t (followed b) b h) (follows b s (ended-resting [] (b .active .cursor) (b .engine .«under_way») h)))
     (λ h. subst Good (second-of t (followed b) b h) (stays b s h))
 
--- a step of the active list: to a cursor past its start, and a well formed engine
+-- a step of the active list: to a cursor past its start, and a well formed engine and fill
 moved-good : (m : Machine) (c : Cursor) (s : Scene) → Good (m .board) → m .board .active .taken ≡ true → c .span ≡ m .board .active .cursor .span
-    → Visiting c → engineOk (m .board .sizes .extent) (s .engine) ≡ true → Good (movedTo m c s .board)
-moved-good m c s g t same v ok =
+    → Visiting c → engineOk (m .board .sizes .extent) (s .engine) ≡ true → fillOk (m .board .sizes .extent) (s .engine) (s .fill) ≡ true
+    → Good (movedTo m c s .board)
+moved-good m c s g t same v ok held =
     let b = m .board in
-    settle-good (withSteps b c (s .engine))
+    settle-good (withSteps b c (s .engine) (s .fill))
     (record {
       sizes = g .sizes;
       engine = ok;
+      fill = held;
       taken = t;
       span = ap (λ s. spanOk s (b .sizes .entries)) same ∙ active-span (b .active) (b .sizes .entries) (b .engine .«under_way») (g .active) t;
       pending = g .pending;
@@ -101,6 +107,7 @@ act-good l m Visit e g =
     let u = chosen l (b .active .cursor) (b .engine .«under_way») Visit e in
     moved-good m (b .active .cursor) (visitOf (b .sizes .extent) (sceneOf m)) g (active-of b g u) refl (next-within b g u)
     (visits-stay-ok (b .sizes .extent) (sceneOf m) (g .engine))
+    (visits-keep-fill (b .sizes .extent) (sceneOf m) u (g .fill))
 act-good l m (Take x) e g =
     let b = m .board in
     let c = chosen l (b .active .cursor) (b .engine .«under_way») (Take x) e in
@@ -109,6 +116,7 @@ act-good l m (Take x) e g =
     moved-good m (fetchedOf (b .active .cursor)) (takenOf (b .sizes .extent) (sceneOf m) x) g t refl
     (record { past = omega (arith, f .from); within = omega (arith, c .more) })
     (entries-stay-ok (b .sizes .extent) (sceneOf m) x (c .legal) (g .engine))
+    (entries-keep-fill (b .sizes .extent) (sceneOf m) x)
 act-good l m Broken e g = g
 
 pub stays-well-formed : StaysWellFormed
@@ -149,12 +157,20 @@ settled-sizes b = by (endedOf (b .active .cursor) (b .engine .«under_way»))
     by true = refl
     by false = refl
 
--- and the engine
+-- and the engine, and the fill
 pub settled-engine : (b : Board) → settledOf b .engine ≡ b .engine
 unfolding settledOf
 settled-engine b = by (endedOf (b .active .cursor) (b .engine .«under_way»))
   where
     by : (t : Bool) → cond t (followed b) b .engine ≡ b .engine
+    by true = refl
+    by false = refl
+
+pub settled-fill : (b : Board) → settledOf b .fill ≡ b .fill
+unfolding settledOf
+settled-fill b = by (endedOf (b .active .cursor) (b .engine .«under_way»))
+  where
+    by : (t : Bool) → cond t (followed b) b .fill ≡ b .fill
     by true = refl
     by false = refl
 
@@ -167,8 +183,8 @@ step-sizes l m = go (nextOn l (m .board))
     go Ended = refl
     go Visit =
         let s = visitOf (m .board .sizes .extent) (sceneOf m) in
-        settled-sizes (withSteps (m .board) (m .board .active .cursor) (s .engine))
+        settled-sizes (withSteps (m .board) (m .board .active .cursor) (s .engine) (s .fill))
     go (Take x) =
         let s = takenOf (m .board .sizes .extent) (sceneOf m) x in
-        settled-sizes (withSteps (m .board) (fetchedOf (m .board .active .cursor)) (s .engine))
+        settled-sizes (withSteps (m .board) (fetchedOf (m .board .active .cursor)) (s .engine) (s .fill))
     go Broken = refl

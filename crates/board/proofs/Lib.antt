@@ -1,5 +1,6 @@
 pub mod Forms
 pub mod Keeps
+pub mod Typed
 pub mod Goes
 pub mod Counts
 pub mod Wholes

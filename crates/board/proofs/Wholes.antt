@@ -43,7 +43,7 @@ restDone l m = doneOf (m .board .sizes .extent) (sceneOf m) (toCome l (m .board)
 moved-done : (l : List ℕ) (m : Machine) (c : Cursor) (s : Scene)
     → restDone l (movedTo m c s) ≡ doneOf (m .board .sizes .extent) s (restOf l c ++ restOf l (cursorOn (m .board .pending .span)))
 moved-done l m c s =
-    let b = withSteps (m .board) c (s .engine) in
+    let b = withSteps (m .board) c (s .engine) (s .fill) in
     let z = settled-sizes b in
     λ i. doneOf (z i .extent) (settled-scene b (s .display) (s .virt) i) (settled-to-come l b i)
 
@@ -92,7 +92,7 @@ runs-to-the-end (suc k) l m w h n =
 -- ---- a list posted on an idle board
 abbrev postedOn : Board → ℕ → ℕ → Board
 postedOn b start count =
-    record { sizes = b .sizes; active = activeOn (slotWith (spanOf start count)); pending = b .pending; engine = b .engine }
+    record { sizes = b .sizes; active = activeOn (slotWith (spanOf start count)); pending = b .pending; engine = b .engine; fill = b .fill }
 
 posted-is : (l : List ℕ) (start count : ℕ) (b : Board) → b .active .taken ≡ false → postCall l start count b .report .number ≡ 0
     → (wellFormed b ≡ true) × (postCall l start count b .board ≡ postedOn b start count)

@@ -3,6 +3,7 @@ use mathlib.Core.Bool.{cond}
 use mathlib.Core.List.{List}
 use Prim.Native.Nat.{ℕ}
 use lib.Dec.{eqb}
+use Rattle.tiles.specs.Tiles.{noFill}
 use Rattle.commands.specs.Steps.{freshEngine}
 use Rattle.answers.specs.Reports.{Report, report, reportOf}
 use Rattle.lists.specs.Spans.{spanOf}
@@ -24,9 +25,9 @@ reply a = record { report = reportOf (a .status); board = a .board }
 abbrev pub answered : ℕ → ℕ → Board → Reply
 answered number place b = record { report = report number place 0; board = b }
 
--- Fresh: "slots empty", and the engine's fresh values.
+-- Fresh: "slots empty", the engine's fresh values, and no fill (02, R-7).
 abbrev pub freshBoard : Sizes → Board
-freshBoard z = record { sizes = z; active = activeOn emptySlot; pending = emptySlot; engine = freshEngine }
+freshBoard z = record { sizes = z; active = activeOn emptySlot; pending = emptySlot; engine = freshEngine; fill = noFill }
 
 abbrev pub sizes : ℕ → ℕ → ℕ → Sizes
 sizes width height entries = record { extent = record { width = width; height = height }; entries = entries }
@@ -41,8 +42,8 @@ makeCall width height entries =
 unfoldable pub postedOf : Board → ℕ → ℕ → Board
 postedOf b start count =
     cond (b .active .taken)
-    (record { sizes = b .sizes; active = b .active; pending = slotWith (spanOf start count); engine = b .engine })
-    (record { sizes = b .sizes; active = activeOn (slotWith (spanOf start count)); pending = b .pending; engine = b .engine })
+    (record { sizes = b .sizes; active = b .active; pending = slotWith (spanOf start count); engine = b .engine; fill = b .fill })
+    (record { sizes = b .sizes; active = activeOn (slotWith (spanOf start count)); pending = b .pending; engine = b .engine; fill = b .fill })
 
 -- Done, or refused with the record as given.
 abbrev pub postBy : Report → Board → ℕ → ℕ → Reply

@@ -2,6 +2,7 @@
 use mathlib.Core.Bool.{cond}
 use mathlib.Core.List.{List}
 use Prim.Native.Nat.{ℕ}
+use Rattle.tiles.specs.declared.Fill.{Fill}
 use Rattle.commands.specs.Steps.{Scene, scene, visitOf, takenOf}
 use Rattle.commands.specs.declared.Engine.{Engine}
 use Rattle.lists.specs.Cursors.{nextOf, fetchedOf, endedOf}
@@ -21,27 +22,27 @@ abbrev pub machine : Board → List ℕ → List ℕ → Machine
 machine b d v = record { board = b; display = d; virt = v }
 
 abbrev pub sceneOf : Machine → Scene
-sceneOf m = scene (m .board .engine) (m .display) (m .virt)
+sceneOf m = scene (m .board .engine) (m .board .fill) (m .display) (m .virt)
 
 -- What the next step is: that of the active list.
 abbrev pub nextOn : List ℕ → Board → Next
 nextOn l b = nextOf l (b .active .cursor) (b .engine .«under_way»)
 
--- A record with the list and the engine that steps of its active list leave.
-abbrev pub withSteps : Board → Cursor → Engine → Board
-withSteps b c e =
-    record { sizes = b .sizes; active = record { taken = b .active .taken; cursor = c }; pending = b .pending; engine = e }
+-- A record with the list, the engine and the fill that steps of its active list leave.
+abbrev pub withSteps : Board → Cursor → Engine → Fill → Board
+withSteps b c e f =
+    record { sizes = b .sizes; active = record { taken = b .active .taken; cursor = c }; pending = b .pending; engine = e; fill = f }
 
 -- "A list ends with the step after which it has neither entries nor pixels left; the pending list then becomes active in
 -- that same step."
 unfoldable pub settledOf : Board → Board
 settledOf b =
     cond (endedOf (b .active .cursor) (b .engine .«under_way»))
-    (record { sizes = b .sizes; active = activeOn (b .pending); pending = emptySlot; engine = b .engine })
+    (record { sizes = b .sizes; active = activeOn (b .pending); pending = emptySlot; engine = b .engine; fill = b .fill })
     b
 
 abbrev pub movedTo : Machine → Cursor → Scene → Machine
-movedTo m c s = machine (settledOf (withSteps (m .board) c (s .engine))) (s .display) (s .virt)
+movedTo m c s = machine (settledOf (withSteps (m .board) c (s .engine) (s .fill))) (s .display) (s .virt)
 
 -- One step, where there is one: of a pixel, or of a legal entry.
 abbrev pub actOf : Next → Machine → Machine

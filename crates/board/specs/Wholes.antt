@@ -30,4 +30,4 @@ PostedUnchanged =
     let p = postCall l start count b in
     let r = runCall budget l (machine (p .board) display virt) in
     p .report .number ≡ 0 → r .report .number ≡ 0 → r .after .board .active .taken ≡ false
-    → sceneOf (r .after) ≡ doneBy every (b .sizes .extent) (scene (b .engine) display virt) (entriesFrom l start count)
+    → sceneOf (r .after) ≡ doneBy every (b .sizes .extent) (scene (b .engine) (b .fill) display virt) (entriesFrom l start count)

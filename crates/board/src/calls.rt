@@ -13,6 +13,7 @@ use slots::Slot;
 use slots::post_status;
 use slots::store_into;
 use slots::write_into;
+use tiles::no_fill;
 
 impl Board {
     fn fresh(z: Sizes) -> Board
@@ -27,6 +28,7 @@ impl Board {
             active: Active::on(free),
             pending: free,
             engine: Engine::fresh(),
+            fill: no_fill(),
         }
     }
 
@@ -71,6 +73,7 @@ impl Board {
         let a = self.active;
         let p = self.pending;
         let e = self.engine;
+        let f = self.fill;
         let list = Slot {
             taken: true,
             span: Span { start, count },
@@ -81,6 +84,7 @@ impl Board {
                 active: a,
                 pending: list,
                 engine: e,
+                fill: f,
             };
         }
         Board {
@@ -88,6 +92,7 @@ impl Board {
             active: Active::on(list),
             pending: p,
             engine: e,
+            fill: f,
         }
     }
 

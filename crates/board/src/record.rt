@@ -5,12 +5,14 @@ use commands::Engine;
 use slots::Active;
 use slots::Sizes;
 use slots::Slot;
+use tiles::Fill;
 
 pub struct Board {
     pub sizes: Sizes,
     pub active: Active,
     pub pending: Slot,
     pub engine: Engine,
+    pub fill: Fill,
 }
 
 impl Board {
@@ -31,8 +33,10 @@ impl Board {
         let a = self.active;
         let p = self.pending;
         let e = self.engine;
+        let f = self.fill;
         z.in_limits()
             & e.well_formed(z.extent)
+            & e.fill_ok(z.extent, f)
             & a.well_formed(z.entries, e.under_way)
             & p.well_formed(z.entries)
             & self.order_ok()

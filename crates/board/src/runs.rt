@@ -27,11 +27,13 @@ impl Board {
         let a = self.active;
         let c = a.cursor;
         let e = self.engine;
-        let r = run_list(e, z.extent, c, budget, list, display, virt);
+        let f = self.fill;
+        let r = run_list(e, f, z.extent, c, budget, list, display, virt);
         let cursor = r.cursor;
         let engine = r.engine;
+        let fill = r.fill;
         Leap {
-            board: self.moved(cursor, engine),
+            board: self.moved(cursor, engine, fill),
             steps: r.steps,
             broken: r.broken,
         }

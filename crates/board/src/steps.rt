@@ -7,6 +7,7 @@ use lists::Cursor;
 use lists::Span;
 use slots::Active;
 use slots::Slot;
+use tiles::Fill;
 
 impl Board {
     // Once its last step is done a list leaves, and the pending list becomes active.
@@ -18,6 +19,7 @@ impl Board {
         let c = a.cursor;
         let p = self.pending;
         let e = self.engine;
+        let f = self.fill;
         if !c.ended(e.under_way) {
             return self;
         }
@@ -29,12 +31,13 @@ impl Board {
                 span: Span { start: 0, count: 0 },
             },
             engine: e,
+            fill: f,
         }
     }
 
-    // With the list and the engine that steps of the active list leave.
-    pub(crate) fn moved(self, cursor: Cursor, engine: Engine) -> Board
-        ensures { λ r. ⌜ r ≡ settledOf (withSteps self cursor engine) ⌝ }
+    // With the list, the engine and the fill that steps of the active list leave.
+    pub(crate) fn moved(self, cursor: Cursor, engine: Engine, fill: Fill) -> Board
+        ensures { λ r. ⌜ r ≡ settledOf (withSteps self cursor engine fill) ⌝ }
     {
         let z = self.sizes;
         let a = self.active;
@@ -47,6 +50,7 @@ impl Board {
             },
             pending: p,
             engine,
+            fill,
         };
         b.settled()
     }

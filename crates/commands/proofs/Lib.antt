@@ -5,6 +5,7 @@ pub mod Bounds
 pub mod Triggers
 pub mod Visiting
 pub mod Sound
+pub mod Held
 pub mod Counts
 pub mod Unchanged
 pub mod Lists

@@ -18,6 +18,8 @@ use Rattle.sources.specs.Sources.{sourceOf}
 use Rattle.sources.specs.declared.Source.{Source}
 use Rattle.sources.specs.declared.Source.the-variants.{Value, Nothing}
 use Rattle.commands.specs.Visits.{commandIn, cellAt, targetFrom, targetOf, sourceAt}
+use Rattle.tiles.specs.declared.Fill.{Fill}
+use Rattle.commands.specs.Hatching.{fillAfter}
 use Rattle.commands.specs.Steps.{scene, inked, inkedAt, inDashes, patternAfter, advancedOf, visitBy, visitOf}
 use Rattle.commands.proofs.Tests.{flag-is}
 use Rattle.commands.specs.declared.Engine.{Engine}
@@ -43,30 +45,30 @@ unfolding patternAfter
 pattern-by e b h = rw h
 
 -- a visit, by the buffer that it draws on
-module _ (extent : Extent) (e : Engine) (d v m : List ℕ) (c : Command) (cell : Cell) (q : Place) (s : Source) (a : Engine) (p : c ≡ commandIn e)
+module _ (extent : Extent) (e : Engine) (f : Fill) (d v m : List ℕ) (c : Command) (cell : Cell) (q : Place) (s : Source) (a : Engine) (p : c ≡ commandIn e)
     (shared : cell ≡ cellAt extent e (e .visited)) (at : q ≡ targetFrom extent e (e .visited) cell)
-    (from : s ≡ sourceOf c (e .registers) (e .pattern) extent cell d v) (after : a ≡ advancedOf extent e) where
+    (from : s ≡ sourceOf c (e .registers) (e .pattern) extent f cell d v) (after : a ≡ advancedOf extent e) where
   -- the drawn buffer, from the place and the source that were found at the one cell
   drawn-is : (l : List ℕ) → m ≡ inked e s q l
-      → m ≡ inked e (sourceAt extent e (e .visited) d v) (targetOf extent e (e .visited)) l
+      → m ≡ inked e (sourceAt extent e f (e .visited) d v) (targetOf extent e (e .visited)) l
   drawn-is l k =
       k ∙ ap₂ (λ s q. inked e s q l) from at
-      ∙ ap₂ (λ c cell. inked e (sourceOf c (e .registers) (e .pattern) extent cell d v) (targetFrom extent e (e .visited) cell) l) p shared
+      ∙ ap₂ (λ c cell. inked e (sourceOf c (e .registers) (e .pattern) extent f cell d v) (targetFrom extent e (e .visited) cell) l) p shared
 
-  pub visit-virtual : c .«to_virtual» ≡ true → m ≡ inked e s q v → scene a d m ≡ visitOf extent (scene e d v)
+  pub visit-virtual : c .«to_virtual» ≡ true → m ≡ inked e s q v → scene a (fillAfter a f) d m ≡ visitOf extent (scene e f d v)
   unfolding visitBy
   visit-virtual h k =
       let place = targetOf extent e (e .visited) in
-      let source = sourceAt extent e (e .visited) d v in
-      (λ i. scene (after i) d (drawn-is v k i))
-      ∙ ap (λ t. scene (advancedOf extent e) (cond t d (inked e source place d)) (cond t (inked e source place v) v))
+      let source = sourceAt extent e f (e .visited) d v in
+      (λ i. scene (after i) (fillAfter (after i) f) d (drawn-is v k i))
+      ∙ ap (λ t. scene (advancedOf extent e) (fillAfter (advancedOf extent e) f) (cond t d (inked e source place d)) (cond t (inked e source place v) v))
       (sym (flag-is e c p (λ c. c .«to_virtual») true h))
 
-  pub visit-display : c .«to_virtual» ≡ false → m ≡ inked e s q d → scene a m v ≡ visitOf extent (scene e d v)
+  pub visit-display : c .«to_virtual» ≡ false → m ≡ inked e s q d → scene a (fillAfter a f) m v ≡ visitOf extent (scene e f d v)
   unfolding visitBy
   visit-display h k =
       let place = targetOf extent e (e .visited) in
-      let source = sourceAt extent e (e .visited) d v in
-      (λ i. scene (after i) (drawn-is d k i) v)
-      ∙ ap (λ t. scene (advancedOf extent e) (cond t d (inked e source place d)) (cond t (inked e source place v) v))
+      let source = sourceAt extent e f (e .visited) d v in
+      (λ i. scene (after i) (fillAfter (after i) f) (drawn-is d k i) v)
+      ∙ ap (λ t. scene (advancedOf extent e) (fillAfter (advancedOf extent e) f) (cond t d (inked e source place d)) (cond t (inked e source place v) v))
       (sym (flag-is e c p (λ c. c .«to_virtual») false h))

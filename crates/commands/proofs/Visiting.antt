@@ -38,7 +38,7 @@ unfolding visitBy
 keeps-lengths extent s =
     let e = s .engine in
     let q = targetOf extent e (e .visited) in
-    let o = sourceAt extent e (e .visited) (s .display) (s .virt) in (
+    let o = sourceAt extent e (s .fill) (e .visited) (s .display) (s .virt) in (
       either (λ l. length l ≡ length (s .display)) (commandIn e .«to_virtual») (s .display) (inked e o q (s .display)) refl
           (inked-length e o q (s .display)),
       either (λ l. length l ≡ length (s .virt)) (commandIn e .«to_virtual») (inked e o q (s .virt)) (s .virt) (inked-length e o q (s .virt))
@@ -54,7 +54,7 @@ unfolding visitBy
 hidden-draws-nothing extent s p =
     let e = s .engine in
     let q = targetOf extent e (e .visited) in
-    let o = sourceAt extent e (e .visited) (s .display) (s .virt) in (
+    let o = sourceAt extent e (s .fill) (e .visited) (s .display) (s .virt) in (
       either (λ l. l ≡ s .display) (commandIn e .«to_virtual») (s .display) (inked e o q (s .display)) refl
           (hidden-inks-nothing e o q (s .display) p),
       either (λ l. l ≡ s .virt) (commandIn e .«to_virtual») (inked e o q (s .virt)) (s .virt) (hidden-inks-nothing e o q (s .virt) p) refl,
@@ -73,7 +73,7 @@ advanced-pattern : (extent : Extent) (e : Engine) → advancedOf extent e .patte
 unfolding advancedBy
 advanced-pattern extent e = by-cases (ltb (e .visited + 1) (countOf extent e)) (λ t. rw t) (λ t. rw t)
 
-advanced-registers : (rule : Rule) (extent : Extent) (e : Engine) → advancedBy rule extent e .registers ≡ e .registers
+pub advanced-registers : (rule : Rule) (extent : Extent) (e : Engine) → advancedBy rule extent e .registers ≡ e .registers
 unfolding advancedBy
 advanced-registers rule extent e = by-cases (ltb (e .visited + 1) (countBy rule extent e)) (λ t. rw t) (λ t. rw t)
 

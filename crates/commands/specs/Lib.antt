@@ -1,4 +1,5 @@
 pub mod Visits
+pub mod Hatching
 pub mod Steps
 pub mod Entering
 pub mod Record

@@ -17,17 +17,20 @@ use Rattle.registers.specs.Patterns.{startOf, nextOf, movesOf}
 use Rattle.registers.specs.declared.dashes.Pattern.{Pattern}
 use Rattle.sources.specs.declared.Source.{Source}
 use Rattle.sources.specs.declared.Source.the-variants.{Value, Nothing}
+use Rattle.tiles.specs.declared.Fill.{Fill}
+use Rattle.commands.specs.Hatching.{fillTaken, fillAfter}
 use Rattle.commands.specs.Visits.{commandIn, Rule, shows, countBy, cellBy, targetFrom, targetOf, sourceFrom}
 use Rattle.commands.specs.declared.Engine.{Engine}
 
--- An engine with its two picture buffers.
+-- An engine with the tile of its fill and its two picture buffers.
 pub record Scene : Type 0 where
   pub engine : Engine
+  pub fill : Fill
   pub display : List ℕ
   pub virt : List ℕ
 
-abbrev pub scene : Engine → List ℕ → List ℕ → Scene
-scene e d v = record { engine = e; display = d; virt = v }
+abbrev pub scene : Engine → Fill → List ℕ → List ℕ → Scene
+scene e f d v = record { engine = e; fill = f; display = d; virt = v }
 
 -- "Fresh: all registers zero but MASK 255; pattern at 0, 0; last point (0, 0)"
 abbrev pub freshEngine : Engine
@@ -86,9 +89,10 @@ visitBy rule extent s =
     let e = s .engine in
     let cell = cellBy rule extent e (e .visited) in
     let place = targetFrom extent e (e .visited) cell in
-    let source = sourceFrom extent e cell (s .display) (s .virt) in
+    let source = sourceFrom extent e (s .fill) cell (s .display) (s .virt) in
     record {
       engine = advancedBy rule extent e;
+      fill = fillAfter (advancedBy rule extent e) (s .fill);
       display = cond (commandIn e .«to_virtual») (s .display) (inked e source place (s .display));
       virt = cond (commandIn e .«to_virtual») (inked e source place (s .virt)) (s .virt);
     }
@@ -147,7 +151,9 @@ enteredOf extent e entry = enteredBy shows extent e entry
 
 -- One entry taken.
 abbrev pub takenBy : Rule → Extent → Scene → Entry → Scene
-takenBy rule extent s entry = scene (enteredBy rule extent (s .engine) entry) (s .display) (s .virt)
+takenBy rule extent s entry =
+    let e = enteredBy rule extent (s .engine) entry in
+    scene e (fillTaken extent e (s .display) (s .virt)) (s .display) (s .virt)
 
 abbrev pub takenOf : Extent → Scene → Entry → Scene
 takenOf extent s entry = takenBy shows extent s entry

@@ -23,6 +23,7 @@ use Rattle.entries.specs.declared.fields.Command.{Command}
 use Rattle.registers.specs.declared.file.Registers.{Registers}
 use Rattle.sources.specs.Sources.{sourceOf}
 use Rattle.sources.specs.declared.Source.{Source}
+use Rattle.tiles.specs.declared.Fill.{Fill}
 use Rattle.commands.specs.declared.Engine.{Engine}
 
 -- The command in CMD.
@@ -100,8 +101,8 @@ abbrev pub targetOf : Extent → Engine → ℕ → Place
 targetOf extent e k = targetFrom extent e k (cellAt extent e k)
 
 -- The source of a visit.
-abbrev pub sourceFrom : Extent → Engine → Cell → List ℕ → List ℕ → Source
-sourceFrom extent e cell display virt = sourceOf (commandIn e) (e .registers) (e .pattern) extent cell display virt
+abbrev pub sourceFrom : Extent → Engine → Fill → Cell → List ℕ → List ℕ → Source
+sourceFrom extent e fill cell display virt = sourceOf (commandIn e) (e .registers) (e .pattern) extent fill cell display virt
 
-abbrev pub sourceAt : Extent → Engine → ℕ → List ℕ → List ℕ → Source
-sourceAt extent e k display virt = sourceFrom extent e (cellAt extent e k) display virt
+abbrev pub sourceAt : Extent → Engine → Fill → ℕ → List ℕ → List ℕ → Source
+sourceAt extent e fill k display virt = sourceFrom extent e fill (cellAt extent e k) display virt

@@ -1,5 +1,6 @@
 // One command on the two picture buffers: what it visits, and what one step does (document 01, Steps and Pixels). Lists
 // and slots are not known here.
+mod hatching;
 mod steps;
 mod visits;
 

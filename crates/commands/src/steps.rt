@@ -1,6 +1,7 @@
 // One step: a pixel visited, or an entry taken.
 ghost use mathlib.Core.Path.{_≡_};
 ghost use Rattle.raster.specs.Raster.{newByte};
+ghost use Rattle.commands.specs.Hatching.{fillAfter};
 ghost use Rattle.commands.specs.Steps.{scene, inked, patternAfter, advancedOf, visitOf, patternSet, enteredOf};
 ghost use Rattle.commands.specs.Entering.{putOf, begunOf, TriggeredBy};
 use crate::Engine;
@@ -15,6 +16,7 @@ use geometry::Place;
 use registers::Pattern;
 use sources::Source;
 use sources::source_of;
+use tiles::Fill;
 
 // The new byte of a pixel; of value and mask the low eight bits count.
 fn mixed(code: u8, value: u32, old: u8, mask: u32) -> u8
@@ -86,8 +88,8 @@ impl Engine {
     }
 
     // One pixel visited. A blit's target and source are at the same cell.
-    pub fn visit(self, extent: Extent, display: &mut [u8], virt: &mut [u8]) -> Engine
-        ensures { λ r. ⌜ scene r (now (display .exit)) (now (virt .exit)) ≡ visitOf extent (scene self (now (display .entry)) (now (virt .entry))) ⌝ }
+    pub fn visit(self, extent: Extent, fill: Fill, display: &mut [u8], virt: &mut [u8]) -> Engine
+        ensures { λ r. ⌜ scene r (fillAfter r fill) (now (display .exit)) (now (virt .exit)) ≡ visitOf extent (scene self fill (now (display .entry)) (now (virt .entry))) ⌝ }
     {
         let k = self.visited as usize;
         let g = self.registers;
@@ -95,7 +97,7 @@ impl Engine {
         let c = command_of(g.cmd);
         let cell = self.cell(extent, k);
         let place = self.target(extent, k, cell);
-        let source = source_of(c, g, p, extent, cell, display, virt);
+        let source = source_of(c, g, p, extent, fill, cell, display, virt);
         let after = self.advanced(extent);
         if c.to_virtual {
             self.ink(source, place, virt);

@@ -1,13 +1,32 @@
 -- Which words a register may hold, register by register.
 -- Assumes nothing.
 use mathlib.Core.Path.{_≡_, ap, sym, _∙_}
-use mathlib.Core.Bool.{Bool, true, _&&_, _||_, or-false}
+use mathlib.Core.Bool.{Bool, true, false, _&&_, _||_, or-false}
 use Prim.Native.Nat.{ℕ, _/_, _%_, _^_, _≤_, _<_}
 use native.Mathlib.Omega.{arith}
-use borrow.Author.Tests.{eqb-false, eq-eqb, ne-eqb, le-leb, lt-leb, ltb-true, ltb-false}
+use borrow.Author.Tests.{eqb-true, eqb-false, eq-eqb, ne-eqb, le-leb, lt-leb, ltb-true, ltb-false}
 use lib.Dec.{eqb, leb, ltb}
 use Rattle.lemmas.proofs.Booleans.{by-cases}
-use Rattle.entries.specs.Legality.{cmdLegal, pctrlLegal, dataLegal, entryLegal}
+use Rattle.entries.specs.Fields.{commandOf, isBlit, isLine}
+use Rattle.entries.specs.Legality.{blitLegal, lineLegal, cmdLegal, pctrlLegal, dataLegal, entryLegal}
+
+-- CMD by the kind of its command
+abbrev lowZero : ℕ → Bool
+lowZero word = eqb (word % 2 ^ 14) 0
+
+pub blit-word : (word : ℕ) → isBlit (commandOf word) ≡ true → (lowZero word && blitLegal (commandOf word)) ≡ cmdLegal word
+unfolding cmdLegal
+blit-word word h =
+    let c = commandOf word in
+    let one : c .opcode ≡ 1 = eqb-true (c .opcode) 1 h in
+    let line : isLine c ≡ false = ap (λ n. eqb n 2 || eqb n 5) one in
+    let some : eqb word 0 ≡ false = ne-eqb word 0 (λ e. omega (arith, one)) in
+    rw (some, h, line) (simp or-false)
+
+pub other-word : (word : ℕ) → isBlit (commandOf word) ≡ false
+    → (eqb word 0 || (lowZero word && (isLine (commandOf word) && lineLegal (commandOf word)))) ≡ cmdLegal word
+unfolding cmdLegal
+other-word word h = rw h
 
 pub cmd-held : (register word : ℕ) → register ≡ 0 → cmdLegal word ≡ dataLegal register word
 unfolding dataLegal

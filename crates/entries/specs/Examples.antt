@@ -1,4 +1,4 @@
--- P8, P11 and P12 (01, Boards to check). And which stippled blits are legal (02, R-2).
+-- P8, P11 and P12 (01, Boards to check). And which stippled and tiled blits are legal (02, R-2 and R-7).
 use mathlib.Core.Path.{_≡_}
 use mathlib.Core.Bool.{true, false}
 use mathlib.Core.List.{List, [], _∷_}
@@ -36,3 +36,20 @@ StipplesAreLegal =
     × (cmdLegal 0x1328_0000 ≡ false)
     × (cmdLegal 0x1324_0000 ≡ false)
     × (cmdLegal 0x1340_0000 ≡ false)
+
+-- BITBLT, raster code 3, with APAT: alone, with CLIP and both buffers virtual; not with SOLID, TRNSP, STPL, KEY, NLST or PRST,
+-- nor with bit 13. No APAT in a NOOP, in a LINE with SOLID, nor in a PLINE with STPL.
+abbrev pub TilesAreLegal : Type 0
+TilesAreLegal =
+    (cmdLegal 0x1300_4000 ≡ true)
+    × (cmdLegal 0x1303_C000 ≡ true)
+    × (cmdLegal 0x1380_4000 ≡ false)
+    × (cmdLegal 0x1340_4000 ≡ false)
+    × (cmdLegal 0x1320_4000 ≡ false)
+    × (cmdLegal 0x1310_4000 ≡ false)
+    × (cmdLegal 0x1308_4000 ≡ false)
+    × (cmdLegal 0x1304_4000 ≡ false)
+    × (cmdLegal 0x1300_6000 ≡ false)
+    × (cmdLegal 0x0000_4000 ≡ false)
+    × (cmdLegal 0x2380_4000 ≡ false)
+    × (cmdLegal 0x5320_4000 ≡ false)

@@ -13,7 +13,7 @@ abbrev pub flag : ℕ → ℕ → Bool
 flag low word = eqb (field low 1 word) 1
 
 -- "opcode 31..28, raster code 27..24, then SOLID 23, TRNSP 22, STPL 21, KEY 20, NLST 19, PRST 18, CLIP 17, source 16,
--- destination 15 (0 display, 1 virtual)"
+-- destination 15 (0 display, 1 virtual)"; "CMD bit 14, APAT" (02, R-7)
 abbrev pub commandOf : ℕ → Command
 commandOf word =
     record {
@@ -28,6 +28,7 @@ commandOf word =
       clip = flag 17 word;
       «from_virtual» = flag 16 word;
       «to_virtual» = flag 15 word;
+      apat = flag 14 word;
     }
 
 -- The kinds of commands: "Opcodes NOOP 0, BITBLT 1, LINE 2, PLINE 5". NOOP draws nothing.

@@ -11,23 +11,24 @@ use Rattle.entries.specs.declared.decoding.Decoded.the-variants.{Whole, 
 use Rattle.entries.specs.declared.fields.Command.{Command}
 
 -- "BITBLT: .. NLST, PRST zero"; KEY only without SOLID. STPL is legal since 02, R-2: "6 stays for KEY with STPL and for
--- TRNSP with neither STPL nor SOLID."
+-- TRNSP with neither STPL nor SOLID." APAT "is legal for a BITBLT with SOLID, STPL and KEY zero" (02, R-7).
 abbrev pub blitLegal : Command → Bool
 blitLegal c =
     not (c .nlst)
     && not (c .prst)
     && (not (c .trnsp) || (c .stpl || c .solid))
     && (not (c .key) || not (c .stpl || c .solid))
+    && (not (c .apat) || not (c .key || (c .stpl || c .solid)))
 
--- "LINE, PLINE: KEY and source zero; SOLID or STPL set."
+-- "LINE, PLINE: KEY and source zero; SOLID or STPL set." And not "APAT with any other command or style".
 abbrev pub lineLegal : Command → Bool
-lineLegal c = not (c .key) && not (c .«from_virtual») && (c .solid || c .stpl)
+lineLegal c = not (c .key) && not (c .«from_virtual») && not (c .apat) && (c .solid || c .stpl)
 
--- Bits 14 to 0 "rest zero"; "NOOP: all else zero. Other opcodes are illegal."
+-- Bits 13 to 0 "rest zero"; "NOOP: all else zero. Other opcodes are illegal."
 unfoldable pub cmdLegal : ℕ → Bool
 cmdLegal word =
     let c = commandOf word in
-    eqb word 0 || (eqb (word % 2 ^ 15) 0 && (isBlit c && blitLegal c || isLine c && lineLegal c))
+    eqb word 0 || (eqb (word % 2 ^ 14) 0 && (isBlit c && blitLegal c || isLine c && lineLegal c))
 
 -- bits 31 to 16 "rest zero. Illegal where SSCL > PSCL, or SPTR is not below the length."
 unfoldable pub pctrlLegal : ℕ → Bool

@@ -15,6 +15,7 @@ pub struct Command {
     pub clip: bool,
     pub from_virtual: bool,
     pub to_virtual: bool,
+    pub apat: bool,
 }
 
 pub fn command_of(word: u32) -> Command
@@ -32,6 +33,7 @@ pub fn command_of(word: u32) -> Command
         clip: word / 131072 % 2 == 1,
         from_virtual: word / 65536 % 2 == 1,
         to_virtual: word / 32768 % 2 == 1,
+        apat: word / 16384 % 2 == 1,
     }
 }
 

@@ -1,18 +1,37 @@
 // Which entries are legal.
 ghost use mathlib.Core.Path.{_≡_};
-ghost use Rattle.entries.specs.Legality.{cmdLegal, pctrlLegal, dataLegal, entryLegal, legalAt};
+ghost use Rattle.entries.specs.Legality.{blitLegal, lineLegal, cmdLegal, pctrlLegal, dataLegal, entryLegal, legalAt};
 use crate::decoding::Decoded;
 use crate::decoding::entry_at;
+use crate::fields::Command;
 use crate::fields::command_of;
 use crate::fields::pattern_length;
+
+// Whether a BITBLT may have these fields, and whether a LINE or PLINE may.
+fn legal_blit(c: Command) -> bool
+    ensures { λ r. ⌜ r ≡ blitLegal c ⌝ }
+{
+    !c.nlst
+        & !c.prst
+        & (!c.trnsp | (c.stpl | c.solid))
+        & (!c.key | !(c.stpl | c.solid))
+        & (!c.apat | !(c.key | (c.stpl | c.solid)))
+}
+
+fn legal_line(c: Command) -> bool
+    ensures { λ r. ⌜ r ≡ lineLegal c ⌝ }
+{
+    !c.key & !c.from_virtual & !c.apat & (c.solid | c.stpl)
+}
 
 pub fn legal_cmd(word: u32) -> bool
     ensures { λ r. ⌜ r ≡ cmdLegal word ⌝ }
 {
     let c = command_of(word);
-    let blit = !c.nlst & !c.prst & (!c.trnsp | (c.stpl | c.solid)) & (!c.key | !(c.stpl | c.solid));
-    let line = !c.key & !c.from_virtual & (c.solid | c.stpl);
-    (word == 0) | ((word % 32768 == 0) & (c.is_blit() & blit | c.is_line() & line))
+    if c.is_blit() {
+        return (word % 16384 == 0) & legal_blit(c);
+    }
+    (word == 0) | ((word % 16384 == 0) & (c.is_line() & legal_line(c)))
 }
 
 pub fn legal_pctrl(word: u32) -> bool

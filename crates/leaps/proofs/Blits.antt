@@ -9,7 +9,7 @@ use native.Mathlib.Omega.{arith}
 use lib.Dec.{eqb}
 use lib.ListN.{getD, set}
 use lib.Seq.{set-getD}
-use Rattle.lemmas.proofs.Booleans.{by-cases}
+use Rattle.lemmas.proofs.Booleans.{by-cases, and-right}
 use Rattle.raster.specs.Raster.{bit, newByte}
 use Rattle.raster.specs.Selectors.{drawn, selected}
 use Rattle.raster.proofs.Wide.{pen-as, selectors-as}
@@ -22,7 +22,7 @@ use Rattle.geometry.specs.declared.Place.the-variants.{At, Outside}
 use Rattle.geometry.specs.declared.Visit.the-variants.{At as VisitAt}
 use Rattle.geometry.proofs.Blits.{cell-visit}
 use Rattle.geometry.proofs.Stretches.{visible-lt}
-use Rattle.geometry.proofs.Windows.{window-lets-through}
+use Rattle.geometry.proofs.Windows.{window-lets-through, buffer-of}
 use Rattle.rows.specs.Rows.{mixed}
 use Rattle.stipples.specs.Stipples.{bitAt, stippled}
 use Rattle.blits.specs.Blits.{painted, reads, sourcePixels, visited}
@@ -30,11 +30,15 @@ use Rattle.blits.specs.declared.Paint.{Paint}
 use Rattle.blits.specs.declared.Paint.the-variants.{Solid, Copied, Moved, Stippled, StippledWithin}
 use Rattle.commands.specs.Visits.{commandIn, windowIn, countOf, cellAt, visitAt, clippedOut, throughTo, targetOf, sourceAt}
 use Rattle.commands.proofs.Tests.{count-blit, cell-blit, position-blit}
-use Rattle.sources.proofs.Reading.{source-solid, source-read}
+use Rattle.sources.proofs.Reading.{source-solid, source-read, source-tiled, tiled-by, tile-missing, tile-pixel}
 use Rattle.entries.specs.Fields.{isBlit}
-use Rattle.sources.specs.Sources.{keyed, readAt, copiedAt, copiedOf, byBit, bitOf, stippledAt, stippledOf, readOf}
+use Rattle.sources.specs.Sources.{keyed, readAt, copiedAt, copiedOf, byBit, bitOf, stippledAt, stippledOf, readOf, tiledAt}
+use Rattle.tiles.specs.Tiles.{noFill, pixelOf}
+use Rattle.tiles.specs.declared.Fill.{Fill}
+use Rattle.blits.specs.Tiled.{planeOf, copyOf}
+use Rattle.blits.proofs.Planes.{plane-at}
 use Rattle.commands.specs.Steps.{inked}
-use Rattle.leaps.specs.Leaps.{penIn, mixIn, stippleIn, fromOther, fromOwn, paintOf, blitIn, indexOf}
+use Rattle.leaps.specs.Leaps.{penIn, mixIn, stippleIn, fromOther, fromOwn, paintOf, blitIn, tilingIn, indexOf}
 use Rattle.commands.specs.declared.Engine.{Engine}
 use Rattle.sources.specs.declared.Source.{Source}
 use Rattle.sources.specs.declared.Source.the-variants.{Value, Nothing}
@@ -171,7 +175,8 @@ ink-read e s x false u i l h = kept (cond u s Nothing)
     kept Nothing = refl
 
 -- a visit's mark, by what the blit is painted from
-module _ (extent : Extent) (e : Engine) (k : ℕ) (blit : isBlit (commandIn e) ≡ true) (few : k < countOf extent e) (small : e .registers .key < 256) where
+module _ (extent : Extent) (e : Engine) (k : ℕ) (blit : isBlit (commandIn e) ≡ true) (few : k < countOf extent e) (small : e .registers .key < 256)
+    (plain : commandIn e .apat ≡ false) where
   abbrev at : ℕ
   at = placeIn (extent .width) (target extent e k blit few)
 
@@ -248,17 +253,17 @@ module _ (extent : Extent) (e : Engine) (k : ℕ) (blit : isBlit (commandIn e) �
 
   -- `to` is whether the virtual buffer is drawn on
   abbrev MarksOn : Bool → List ℕ → List ℕ → Type 0
-  MarksOn to own other = Marks (sourceAt extent e k (cond to other own) (cond to own other)) own other
+  MarksOn to own other = Marks (sourceAt extent e noFill k (cond to other own) (cond to own other)) own other
 
   -- from a buffer that is read
   source-marks : (from : Bool) (d v own other : List ℕ) (paint : Paint) → commandIn e .solid ≡ false → commandIn e .«from_virtual» ≡ from
       → paintOf e ≡ paint
       → inked e (readOf (commandIn e) (e .registers) extent (cellAt extent e k) (cond from v d)) (targetOf extent e k) own ≡ marked paint other own
-      → Marks (sourceAt extent e k d v) own other
+      → Marks (sourceAt extent e noFill k d v) own other
   source-marks from d v own other paint s f p h =
-      marks-as paint (sourceAt extent e k d v) own other p
+      marks-as paint (sourceAt extent e noFill k d v) own other p
       (ap (λ s. inked e s (targetOf extent e k) own)
-      (sym (source-read (commandIn e) (e .registers) (e .pattern) extent (cellAt extent e k) d v s blit from f)) ∙ h)
+      (sym (source-read (commandIn e) (e .registers) (e .pattern) extent noFill (cellAt extent e k) d v s blit plain from f)) ∙ h)
 
   read-marks-on : (to from : Bool) (own other : List ℕ) → commandIn e .solid ≡ false → commandIn e .«to_virtual» ≡ to
       → commandIn e .«from_virtual» ≡ from → MarksOn to own other
@@ -275,7 +280,59 @@ module _ (extent : Extent) (e : Engine) (k : ℕ) (blit : isBlit (commandIn e) �
       (λ s.
       let d = cond to other own in
       let w = cond to own other in
-      marks-as (Solid (penIn e (e .registers .fore))) (sourceAt extent e k d w) own other (rw s)
+      marks-as (Solid (penIn e (e .registers .fore))) (sourceAt extent e noFill k d w) own other (rw s)
       (ap (λ s. inked e s (targetOf extent e k) own)
-      (sym (source-solid (commandIn e) (e .registers) (e .pattern) extent (cellAt extent e k) d w s)) ∙ solid-marks own other))
+      (sym (source-solid (commandIn e) (e .registers) (e .pattern) extent noFill (cellAt extent e k) d w s)) ∙ solid-marks own other))
       (λ s. read-marks-on to (commandIn e .«from_virtual») own other s v refl)
+
+-- a visit's mark from a tile
+module _ (extent : Extent) (e : Engine) (k : ℕ) (blit : isBlit (commandIn e) ≡ true) (few : k < countOf extent e) (hatched : commandIn e .apat ≡ true)
+    (unsolid : commandIn e .solid ≡ false) (fill : Fill) (d v : List ℕ) where
+  abbrev here : Point
+  here = target extent e k blit few
+
+  tile-source : tiledAt fill (VisitAt here) ≡ sourceAt extent e fill k d v
+  tile-source =
+      tiled-by (e .registers) fill (cellAt extent e k) (cellVisit (pointOf (e .registers .xy1)) (e .registers .xy3) (cellAt extent e k)) (VisitAt here) refl
+      (from-corner extent e k blit few (e .registers .xy1))
+      ∙ source-tiled (commandIn e) (e .registers) (e .pattern) extent fill (cellAt extent e k) d v unsolid blit hatched
+
+  pub no-tile-marks : fill .whole ≡ false → (l : List ℕ) → inked e (sourceAt extent e fill k d v) (targetOf extent e k) l ≡ l
+  no-tile-marks h l = ap (λ s. inked e s (targetOf extent e k) l) (sym tile-source ∙ sym (tile-missing fill here h))
+
+  seen-in : seen extent e k blit few ≡ true → inBuffer (extent .width) (extent .height) here ≡ true
+  seen-in t =
+      and-right (not (clippedOut (e .registers) here)) (inBuffer (extent .width) (extent .height) here)
+      (sym (window-lets-through extent (commandIn e .clip) (e .registers .clptl) (e .registers .clpbr) here) ∙ t)
+
+  abbrev plane : List ℕ
+  plane = planeOf (extent .width) (extent .height) (fill .tile)
+
+  abbrev pixel : ℕ
+  pixel = pixelOf (fill .tile) (here .x - origin) (here .y - origin)
+
+  pixel-is : seen extent e k blit few ≡ true → getD plane (placeIn (extent .width) here) 0 ≡ pixel
+  pixel-is t =
+      let inside = buffer-of (extent .width) (extent .height) here (seen-in t) in
+      plane-at (extent .width) (extent .height) (fill .tile) (here .x - origin) (here .y - origin) (inside .2) (inside .3)
+
+  -- what is seen is read from the plane
+  both-ways : (t u : Bool) (l : List ℕ) (i a b : ℕ) → (t ≡ true → u ≡ true) → (t ≡ true → a ≡ b) → cond t (set l i a) l ≡ cond (t && (false || u)) (set l i b) l
+  both-ways true u l i a b h e = ap (set l i) (e refl) ∙ ap (λ u. cond (true && (false || u)) (set l i b) l) (sym (h refl))
+  both-ways false u l i a b h e = refl
+
+  pub tile-marks : fill .whole ≡ true → (l : List ℕ)
+      → inked e (sourceAt extent e fill k d v) (targetOf extent e k) l ≡ visited (copyOf (tilingIn extent e)) plane (index extent e k blit few) l
+  unfolding visited mixed
+  tile-marks h l =
+      let at = placeIn (extent .width) here in
+      ap₂ (λ s q. inked e s q l) (sym tile-source ∙ sym (tile-pixel fill here h (here .x - origin) (here .y - origin) pixel refl refl refl))
+      (place-is extent e k blit few)
+      ∙ ink-value e pixel (seen extent e k blit few) at l
+      ∙ both-ways (seen extent e k blit few) (inBuffer (extent .width) (extent .height) here) l at
+      (newByte (commandIn e .code) pixel (getD l at 0) (e .registers .mask))
+      (drawn (selected (mixIn e .selectors) (getD plane at 0)) (getD l at 0))
+      seen-in
+      (λ t.
+      sym (selectors-as (commandIn e .code) (e .registers .mask) (code-small e) pixel (getD l at 0))
+      ∙ ap (λ s. drawn (selected (mixIn e .selectors) s) (getD l at 0)) (sym (pixel-is t)))

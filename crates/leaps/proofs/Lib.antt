@@ -3,3 +3,4 @@ pub mod Blits
 pub mod Rows
 pub mod Strokes
 pub mod Running
+pub mod Hatched

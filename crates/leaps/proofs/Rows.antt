@@ -5,7 +5,7 @@ use mathlib.Core.Bool.{Bool, true, false, not, cond, _&&_, _||_, false≢true}
 use mathlib.Core.List.{List}
 use Prim.Native.Nat.{ℕ, _+_, _-_, _*_, _≤_, _<_, min, max}
 use native.Mathlib.Omega.{arith}
-use borrow.Author.Tests.{eqb-true, eq-eqb, ltb-true, ltb-false, le-leb}
+use borrow.Author.Tests.{eqb-true, eq-eqb, ltb-true, ltb-false, le-leb, not-true}
 use lib.Dec.{eqb, ltb}
 use lib.ListN.{length}
 use Rattle.lemmas.proofs.Booleans.{by-cases, both, and-left, and-right, first-of, second-of, of-either}
@@ -29,15 +29,23 @@ use Rattle.blits.proofs.Loops.{blit-in}
 use Rattle.entries.specs.declared.fields.Command.{Command}
 use Rattle.registers.specs.declared.file.Registers.{Registers}
 use Rattle.strokes.specs.Strokes.{Dashed, dashed}
-use Rattle.commands.specs.Visits.{commandIn, windowIn, shows, countOf}
+use Rattle.commands.specs.Visits.{commandIn, windowIn, shows, countOf, targetOf, sourceAt as sourceIn}
 use Rattle.entries.specs.Fields.{isBlit, isLine}
-use Rattle.commands.specs.Steps.{patternAfter, visitsOf}
+use Rattle.tiles.specs.Tiles.{noFill}
+use Rattle.tiles.specs.declared.Fill.{Fill}
+use Rattle.tiles.specs.declared.Tile.{Tile}
+use Rattle.rows.specs.Rows.{unkeyed}
+use Rattle.blits.specs.Tiled.{planeOf, copyOf}
+use Rattle.blits.specs.declared.tiled.Tiling.{Tiling}
+use Rattle.blits.proofs.Planes.{plane-long}
+use Rattle.commands.specs.Hatching.{fillAfter}
+use Rattle.commands.specs.Steps.{scene, inked, patternAfter, visitsOf}
 use Rattle.commands.specs.declared.Engine.{Engine}
 use Rattle.commands.proofs.Bounds.{count-same}
 use Rattle.commands.proofs.Tests.{flag-is, count-blit}
-use Rattle.leaps.specs.Leaps.{penIn, mixIn, stippleIn, paintOf, blitIn, indexOf, stretchOf, movedTo, movedBy, canLeap, goesByRows}
-use Rattle.leaps.proofs.Visiting.{sceneOn, Marked, visits-are, Leaps, leaps-of}
-use Rattle.leaps.proofs.Blits.{marks-on}
+use Rattle.leaps.specs.Leaps.{penIn, mixIn, stippleIn, paintOf, blitIn, tilingIn, indexOf, stretchOf, movedTo, movedBy, canLeap, goesByRows, goesByTile}
+use Rattle.leaps.proofs.Visiting.{sceneOn, unfilled, Marked, visits-are, Leaps, leaps-of}
+use Rattle.leaps.proofs.Blits.{marks-on, tile-marks, no-tile-marks}
 use Rattle.geometry.specs.declared.Extent.{Extent}
 
 not-line : (c : Command) → isBlit c ≡ true → isLine c ≡ false
@@ -50,27 +58,6 @@ pattern-stays e h = rw (not-line (commandIn e) h)
 same-blit : (extent : Extent) (e : Engine) (k : ℕ) → blitIn extent (movedTo e k (e .pattern)) ≡ blitIn extent e
 unfolding paintOf
 same-blit extent e k = refl
-
-module _ (extent : Extent) (e : Engine) (blit : isBlit (commandIn e) ≡ true) (small : e .registers .key < 256) (own other : List ℕ) where
-  -- of all visits of the blit
-  abbrev index : ℕ → ℕ
-  index k = indexOf (windowIn extent (e .registers)) (e .registers) k
-
-  -- after k visits; the pattern stays
-  abbrev rowState : ℕ → Dashed
-  rowState k = dashed (inTurn (λ i. visited (blitIn extent e) other (index (e .visited + i))) k own) (e .pattern)
-
-  rows-marked : (to : Bool) → commandIn e .«to_virtual» ≡ to → Marked extent e to other rowState
-  unfolding inTurn
-  rows-marked to v =
-      record {
-        buffers =
-            λ k few.
-            let f = movedTo e k (e .pattern) in
-            marks-on extent f (e .visited + k) blit (omega (arith, few, count-same shows extent f e refl refl)) small to (rowState k .buffer) other v
-            ∙ ap (λ b. visited b other (index (e .visited + k)) (rowState k .buffer)) (same-blit extent e k);
-        patterns = λ k few. pattern-stays (movedTo e k (e .pattern)) blit;
-      }
 
 -- a window lies in its buffer
 window-inside : (extent : Extent) (clip : Bool) (a b : ℕ) → windowInside (extent .width) (extent .height) (windowOf extent clip a b) ≡ true
@@ -93,6 +80,7 @@ window-inside extent false a b =
 pub record Goes (extent : Extent) (e : Engine) (n display virt : ℕ) : Type 0 where
   pub leaps : Leaps extent e n display virt
   pub blit : isBlit (commandIn e) ≡ true
+  pub plain : commandIn e .apat ≡ false
   pub key-small : e .registers .key < 256
 
 pub goes-of : (extent : Extent) (e : Engine) (n display virt : ℕ) → goesByRows extent e n display virt ≡ true → Goes extent e n display virt
@@ -100,12 +88,29 @@ unfolding goesByRows
 goes-of extent e n display virt h =
     let c1 = canLeap extent e n display virt in
     let c2 = isBlit (commandIn e) in
-    let c3 = ltb (e .registers .key) 256 in
-    let h2 = and-left (c1 && c2) c3 h in
+    let c3 = not (commandIn e .apat) in
+    let c4 = ltb (e .registers .key) 256 in
+    let h3 = and-left (c1 && c2 && c3) c4 h in
+    let h2 = and-left (c1 && c2) c3 h3 in
     record {
       leaps = leaps-of extent e n display virt (and-left c1 c2 h2);
       blit = and-right c1 c2 h2;
-      key-small = ltb-true (e .registers .key) 256 (and-right (c1 && c2) c3 h);
+      plain = not-true (commandIn e .apat) (and-right (c1 && c2) c3 h3);
+      key-small = ltb-true (e .registers .key) 256 (and-right (c1 && c2 && c3) c4 h);
+    }
+
+-- a blit in CMD, whatever it is painted from
+abbrev pub blitWith : Extent → Engine → Paint → ℕ → Blit
+blitWith extent e paint from =
+    record {
+      width = extent .width;
+      height = extent .height;
+      window = windowIn extent (e .registers);
+      from = from;
+      to = e .registers .xy1;
+      size = e .registers .xy2;
+      direction = e .registers .xy3;
+      paint = paint;
     }
 
 -- the stretch of all visits that n visits from the next one on lie in
@@ -137,9 +142,9 @@ module _ (extent : Extent) (e : Engine) (n : ℕ) (blit : isBlit (commandIn e) �
       ))
 
   -- what is hidden in it draws nothing
-  module _ (other l : List ℕ) where
+  module _ (paint : Paint) (from : ℕ) (source l : List ℕ) where
     abbrev act : ℕ → List ℕ → List ℕ
-    act k = visited (blitIn extent e) other k
+    act k = visited (blitWith extent e paint from) source k
 
     abbrev Draws : Range → Type 0
     Draws r = inTurn (λ i. act (r .from + i)) (r .past - r .from) l ≡ inTurn (λ i. act (numbered (e .visited + i))) n l
@@ -147,9 +152,9 @@ module _ (extent : Extent) (e : Engine) (n : ℕ) (blit : isBlit (commandIn e) �
     idle : (k : ℕ) → k < blitCount (e .registers .xy2)
         → inWindow window (blitPoint (pointOf (e .registers .xy1)) (e .registers .xy2) (e .registers .xy3) k) ≡ false → (m : List ℕ) → act k m ≡ m
     idle k h t m =
-        let b = blitIn extent e in
+        let b = blitWith extent e paint from in
         let read = not (reads (b .paint)) || inBuffer (sourceWidth b) (b .height) (sourceAt b k) in
-        visit-hidden b other k m (λ u. false≢true (sym t ∙ and-left (inWindow window (targetAt b k)) read u))
+        visit-hidden b source k m (λ u. false≢true (sym t ∙ and-left (inWindow window (targetAt b k)) read u))
 
     abbrev whole : Range
     whole = record { from = 0; past = blitCount (e .registers .xy2) }
@@ -190,9 +195,9 @@ module _ (extent : Extent) (e : Engine) (n : ℕ) (blit : isBlit (commandIn e) �
         (λ t. subst Draws (first-of (eqb n (countOf extent e)) whole part t) (whole-draws (eqb-true n (countOf extent e) t)))
         (λ t. subst Draws (second-of (eqb n (countOf extent e)) whole part t) part-draws)
 
-fits : (extent : Extent) (e : Engine) (first n own other : ℕ) → first + n ≤ blitCount (e .registers .xy2) → own ≡ extent .width * extent .height
-    → other ≡ extent .width * extent .height → blitFits (blitIn extent e) first n other own ≡ true
-fits extent e first n own other few p q =
+fits : (extent : Extent) (e : Engine) (paint : Paint) (from first n own other : ℕ) → first + n ≤ blitCount (e .registers .xy2)
+    → own ≡ extent .width * extent .height → other ≡ extent .width * extent .height → blitFits (blitWith extent e paint from) first n other own ≡ true
+fits extent e paint from first n own other few p q =
     both
     (both (both (eq-eqb own (extent .width * extent .height) p) (eq-eqb other (extent .width * extent .height) q))
     (window-inside extent (commandIn e .clip) (e .registers .clptl) (e .registers .clpbr)))
@@ -207,24 +212,163 @@ index-small w g k r e h =
     (λ t. omega (arith, e, most, visible-lt (pointOf (g .xy1)) (g .xy2) (g .xy3) w k (ltb-true k count t)))
     (λ t. omega (arith, e, most, index-past (pointOf (g .xy1)) (g .xy2) (g .xy3) w k _ refl (ltb-false k count t)))
 
--- n visits, from what the row loops did on the buffer that is drawn on
+-- n visits, from what the row loops did on the buffer that is drawn on: whatever is painted, it is what each visit marks
+module _ (extent : Extent) (e : Engine) (n display virt : ℕ) (leaps : Leaps extent e n display virt) (blit : isBlit (commandIn e) ≡ true) (f : Engine)
+    (moved : f ≡ movedBy extent e n (e .pattern)) (tile : Fill) (to : Bool) (v : commandIn e .«to_virtual» ≡ to) (own other : List ℕ) where
+  -- after k visits; the pattern stays
+  module _ (paint : Paint) (from : ℕ) (source : List ℕ) where
+    abbrev index : ℕ → ℕ
+    index k = indexOf (windowIn extent (e .registers)) (e .registers) k
+
+    abbrev rowState : ℕ → Dashed
+    rowState k = dashed (inTurn (λ i. visited (blitWith extent e paint from) source (index (e .visited + i))) k own) (e .pattern)
+
+    abbrev pub Marks : Type 0
+    Marks =
+        (k : ℕ) → e .visited + k < countOf extent e → (l : List ℕ) →
+        let f = movedTo e k (e .pattern) in
+        inked f (sourceIn extent f tile (e .visited + k) (cond to other l) (cond to l other)) (targetOf extent f (e .visited + k)) l
+        ≡ visited (blitWith extent e paint from) source (index (e .visited + k)) l
+
+    rows-marked : Marks → Marked extent e tile to other rowState
+    unfolding inTurn
+    rows-marked marks =
+        record {
+          buffers = λ k few. marks k few (rowState k .buffer);
+          patterns = λ k few. pattern-stays (movedTo e k (e .pattern)) blit;
+        }
+
+    pub rows-by : Marks → length own ≡ extent .width * extent .height → length source ≡ extent .width * extent .height → (m : List ℕ) →
+        let r = stretchOf (windowIn extent (e .registers)) e (countOf extent e) n in
+        m ≡ blitted (blitWith extent e paint from) (r .from) (r .past - r .from) source own
+        → sceneOn tile f to m other ≡ visitsOf n extent (sceneOn tile e to own other)
+    unfolding inTurn
+    rows-by marks own-long source-long m h =
+        let b = blitWith extent e paint from in
+        let r = stretchOf (windowIn extent (e .registers)) e (countOf extent e) n in
+        let past = stretch-past extent e n blit (leaps .any) (leaps .few) in
+        let drawn = stretch-draws extent e n blit (leaps .any) (leaps .few) paint from source own in
+        let same =
+        h
+        ∙ sym (blit-in b (r .from) (r .past - r .from) source own
+        (fits extent e paint from (r .from) (r .past - r .from) (length own) (length source) past own-long source-long))
+        ∙ drawn in
+        (λ i. sceneOn tile (moved i) to (same i) other)
+        ∙ sym (visits-are extent e tile to other rowState v (leaps .under-way) (leaps .some) refl (rows-marked marks) n (leaps .few))
+
+  -- visits that mark nothing
+  pub none-by : ((k : ℕ) → e .visited + k < countOf extent e → (l : List ℕ) →
+      let f = movedTo e k (e .pattern) in
+      inked f (sourceIn extent f tile (e .visited + k) (cond to other l) (cond to l other)) (targetOf extent f (e .visited + k)) l ≡ l)
+      → sceneOn tile f to own other ≡ visitsOf n extent (sceneOn tile e to own other)
+  none-by marks =
+      (λ i. sceneOn tile (moved i) to own other)
+      ∙ sym (visits-are extent e tile to other (λ _. dashed own (e .pattern)) v (leaps .under-way) (leaps .some) refl
+      (record { buffers = λ k few. marks k few own; patterns = λ k few. pattern-stays (movedTo e k (e .pattern)) blit }) n (leaps .few))
+
+-- with no tile
 module _ (extent : Extent) (e : Engine) (n display virt : ℕ) (g : Goes extent e n display virt) (f : Engine) (moved : f ≡ movedBy extent e n (e .pattern)) where
   pub rows-are : (to : Bool) (own other : List ℕ) → length own ≡ extent .width * extent .height → length other ≡ extent .width * extent .height
       → commandIn e .«to_virtual» ≡ to → (m : List ℕ) →
       let r = stretchOf (windowIn extent (e .registers)) e (countOf extent e) n in
       m ≡ blitted (blitIn extent e) (r .from) (r .past - r .from) other own
-      → sceneOn f to m other ≡ visitsOf n extent (sceneOn e to own other)
-  unfolding inTurn
+      → scene f noFill (cond to other m) (cond to m other) ≡ visitsOf n extent (scene e noFill (cond to other own) (cond to own other))
   rows-are to own other own-long other-long v m h =
-      let b = blitIn extent e in
+      sym (unfilled f (cond to other m) (cond to m other))
+      ∙ rows-by extent e n display virt (g .leaps) (g .blit) f moved noFill to v own other (paintOf e) (e .registers .xy0) other
+      (λ k few l.
+      let f = movedTo e k (e .pattern) in
+      marks-on extent f (e .visited + k) (g .blit) (omega (arith, few, count-same shows extent f e refl refl)) (g .key-small) (g .plain) to l other v
+      ∙ ap (λ b. visited b other (indexOf (windowIn extent (e .registers)) (e .registers) (e .visited + k)) l) (same-blit extent e k))
+      own-long other-long m h
+      ∙ ap (visitsOf n extent) (unfilled e (cond to other own) (cond to own other))
+
+-- what lets visits go by rows from a tile
+pub record GoesTiled (extent : Extent) (e : Engine) (n display virt : ℕ) : Type 0 where
+  pub leaps : Leaps extent e n display virt
+  pub blit : isBlit (commandIn e) ≡ true
+  pub hatched : commandIn e .apat ≡ true
+  pub unsolid : commandIn e .solid ≡ false
+
+pub goes-tiled : (extent : Extent) (e : Engine) (n display virt : ℕ) → goesByTile extent e n display virt ≡ true → GoesTiled extent e n display virt
+unfolding goesByTile
+goes-tiled extent e n display virt h =
+    let c1 = canLeap extent e n display virt in
+    let c2 = isBlit (commandIn e) in
+    let c3 = commandIn e .apat in
+    let c4 = not (commandIn e .solid) in
+    let h3 = and-left (c1 && c2 && c3) c4 h in
+    let h2 = and-left (c1 && c2) c3 h3 in
+    record {
+      leaps = leaps-of extent e n display virt (and-left c1 c2 h2);
+      blit = and-right c1 c2 h2;
+      hatched = and-right (c1 && c2) c3 h3;
+      unsolid = not-true (commandIn e .solid) (and-right (c1 && c2 && c3) c4 h);
+    }
+
+-- from a tile, which is held while the fill is under way
+module _ (extent : Extent) (e : Engine) (n display virt : ℕ) (g : GoesTiled extent e n display virt) (f : Engine)
+    (moved : f ≡ movedBy extent e n (e .pattern)) (fill : Fill) (to : Bool) (v : commandIn e .«to_virtual» ≡ to) (own other : List ℕ) where
+  held : sceneOn fill e to own other ≡ scene e fill (cond to other own) (cond to own other)
+  held = ap (λ f. scene e f (cond to other own) (cond to own other)) (sym (first-of (e .«under_way») fill noFill (g .leaps .under-way)))
+
+  few-in : (k : ℕ) → e .visited + k < countOf extent e → e .visited + k < countOf extent (movedTo e k (e .pattern))
+  few-in k few = omega (arith, few, count-same shows extent (movedTo e k (e .pattern)) e refl refl)
+
+  pub tiled-are : fill .whole ≡ true → length own ≡ extent .width * extent .height → (m : List ℕ) →
       let r = stretchOf (windowIn extent (e .registers)) e (countOf extent e) n in
-      let past = stretch-past extent e n (g .blit) (g .leaps .any) (g .leaps .few) in
-      let drawn = stretch-draws extent e n (g .blit) (g .leaps .any) (g .leaps .few) other own in
-      let same =
-      h ∙ sym (blit-in b (r .from) (r .past - r .from) other own (fits extent e (r .from) (r .past - r .from) (length own) (length other) past own-long other-long)) ∙ drawn in
-      (λ i. sceneOn (moved i) to (same i) other)
-      ∙ sym (visits-are extent e to other (rowState extent e (g .blit) (g .key-small) own other) v (g .leaps .under-way) (g .leaps .some) refl
-      (rows-marked extent e (g .blit) (g .key-small) own other to v) n (g .leaps .few))
+      m ≡ blitted (copyOf (tilingIn extent e)) (r .from) (r .past - r .from) (planeOf (extent .width) (extent .height) (fill .tile)) own
+      → scene f (fillAfter f fill) (cond to other m) (cond to m other) ≡ visitsOf n extent (scene e fill (cond to other own) (cond to own other))
+  tiled-are whole own-long m h =
+      rows-by extent e n display virt (g .leaps) (g .blit) f moved fill to v own other (Copied (unkeyed (mixIn e .selectors))) (e .registers .xy1)
+      (planeOf (extent .width) (extent .height) (fill .tile))
+      (λ k few l.
+      tile-marks extent (movedTo e k (e .pattern)) (e .visited + k) (g .blit) (few-in k few) (g .hatched) (g .unsolid) fill (cond to other l) (cond to l other) whole l)
+      own-long (plane-long (extent .width) (extent .height) (fill .tile)) m h
+      ∙ ap (visitsOf n extent) held
+
+  unwhole-are : fill .whole ≡ false
+      → scene f (fillAfter f fill) (cond to other own) (cond to own other) ≡ visitsOf n extent (scene e fill (cond to other own) (cond to own other))
+  unwhole-are missing =
+      none-by extent e n display virt (g .leaps) (g .blit) f moved fill to v own other
+      (λ k few l.
+      no-tile-marks extent (movedTo e k (e .pattern)) (e .visited + k) (g .blit) (few-in k few) (g .hatched) (g .unsolid) fill (cond to other l) (cond to l other)
+      missing l)
+      ∙ ap (visitsOf n extent) held
+
+pub missing-are : (extent : Extent) (e : Engine) (n display virt : ℕ) → GoesTiled extent e n display virt → (f : Engine) → f ≡ movedBy extent e n (e .pattern)
+    → (fill : Fill) → fill .whole ≡ false → (d v : List ℕ) → scene f (fillAfter f fill) d v ≡ visitsOf n extent (scene e fill d v)
+missing-are extent e n display virt g f moved fill missing d v =
+    by-cases (commandIn e .«to_virtual»)
+    (λ t. unwhole-are extent e n display virt g f moved fill true t v d missing)
+    (λ t. unwhole-are extent e n display virt g f moved fill false t d v missing)
+
+-- what the rows were given, in a stretch and in all
+pub tiled-as : (extent : Extent) (e : Engine) (n : ℕ) (t : Tiling) (c : ℕ) (s : Range) (k : ℕ) (tile : Tile) → t ≡ tilingIn extent e → c ≡ countOf extent e
+    → s ≡ stretchOf (t .window) e c n → k ≡ s .past - s .from → (own : List ℕ) →
+    let r = stretchOf (windowIn extent (e .registers)) e (countOf extent e) n in
+    blitted (copyOf t) (s .from) k (planeOf (t .width) (t .height) tile) own
+    ≡ blitted (copyOf (tilingIn extent e)) (r .from) (r .past - r .from) (planeOf (extent .width) (extent .height) tile) own
+tiled-as extent e n t c s k tile p q h u own =
+    let same = h ∙ ap₂ (λ (t : Tiling) c. stretchOf (t .window) e c n) p q in
+    ap (λ k. blitted (copyOf t) (s .from) k (planeOf (t .width) (t .height) tile) own) u
+    ∙ ap₂ (λ (t : Tiling) (s : Range). blitted (copyOf t) (s .from) (s .past - s .from) (planeOf (t .width) (t .height) tile) own) p same
+
+pub tiled-whole : (extent : Extent) (e : Engine) (n : ℕ) (t : Tiling) (k : ℕ) (tile : Tile) → t ≡ tilingIn extent e → n ≡ countOf extent e
+    → k ≡ blitCount (e .registers .xy2) → (own : List ℕ) →
+    let r = stretchOf (windowIn extent (e .registers)) e (countOf extent e) n in
+    blitted (copyOf t) 0 k (planeOf (t .width) (t .height) tile) own
+    ≡ blitted (copyOf (tilingIn extent e)) (r .from) (r .past - r .from) (planeOf (extent .width) (extent .height) tile) own
+unfolding stretchOf
+tiled-whole extent e n t k tile p q u own =
+    let b : Blit = copyOf (tilingIn extent e) in
+    let plane = planeOf (extent .width) (extent .height) tile in
+    let w = windowIn extent (e .registers) in
+    let whole : Range = record { from = 0; past = blitCount (e .registers .xy2) } in
+    let part : Range = record { from = indexOf w (e .registers) (e .visited); past = indexOf w (e .registers) (e .visited + n - 1) + 1 } in
+    let all : k ≡ blitCount (e .registers .xy2) - 0 = omega (arith, u) in
+    ap₂ (λ (t : Tiling) k. blitted (copyOf t) 0 k (planeOf (t .width) (t .height) tile) own) p all
+    ∙ ap (λ (r : Range). blitted b (r .from) (r .past - r .from) plane own) (first-of (eqb n (countOf extent e)) whole part (eq-eqb n (countOf extent e) q))
 
 -- what the row loops were given
 pub drawn-as : (extent : Extent) (e : Engine) (n : ℕ) (b : Blit) (c : ℕ) (s : Range) (k : ℕ) → b ≡ blitIn extent e → c ≡ countOf extent e

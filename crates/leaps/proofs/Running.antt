@@ -24,7 +24,8 @@ use Rattle.commands.specs.declared.Engine.{Engine}
 use Rattle.commands.proofs.Bounds.{count-same}
 use Rattle.commands.proofs.Triggers.{put-entered}
 use Rattle.leaps.specs.declared.list_runs.Taken.{Taken}
-use Rattle.leaps.specs.declared.list_runs.Progress.{Progress}
+use Rattle.leaps.specs.declared.list_runs.Held.{Held}
+use Rattle.leaps.specs.Leaps.{withTile}
 use Rattle.leaps.specs.ListRuns.{Reached, Reaches, GoesTo, stopped, longer, byStep, runFrom, listRun, VisitsDone, Going, EntriesTaken}
 
 -- ---- sums of steps
@@ -43,17 +44,17 @@ longer-longer j k r i = record { steps = same i; cursor = r .cursor; after = r .
 
 -- ---- an engine that is k visits on in its command
 
-record On (e f : Engine) (k : ℕ) : Type 0 where
-  under : f .«under_way» ≡ true
-  at : f .visited ≡ e .visited + k
-  registers-same : f .registers ≡ e .registers
-  last-same : f .last ≡ e .last
+pub record On (e f : Engine) (k : ℕ) : Type 0 where
+  pub under : f .«under_way» ≡ true
+  pub at : f .visited ≡ e .visited + k
+  pub registers-same : f .registers ≡ e .registers
+  pub last-same : f .last ≡ e .last
 
 advance-on : (extent : Extent) (f : Engine) → f .visited + 1 < countOf extent f → On f (advancedOf extent f) 1
 unfolding advancedBy
 advance-on extent f h = rw (lt-ltb (f .visited + 1) (countOf extent f) h) (record { under = refl; at = refl; registers-same = refl; last-same = refl })
 
-visits-on : (extent : Extent) (s : Scene) (k : ℕ) → s .engine .«under_way» ≡ true → s .engine .visited + k < countOf extent (s .engine)
+pub visits-on : (extent : Extent) (s : Scene) (k : ℕ) → s .engine .«under_way» ≡ true → s .engine .visited + k < countOf extent (s .engine)
     → On (s .engine) (visitsOf k extent s .engine) k
 unfolding visitsBy visitBy
 visits-on extent s zero u h = record { under = u; at = omega arith; registers-same = refl; last-same = refl }
@@ -111,9 +112,9 @@ broken-more budget r = ap (λ t. t && not (endedOf (r .cursor) (r .after .engine
         (λ t. le-ltb (k + 1) (suc n) (omega (arith, ltb-false k n t)) ∙ sym t)
 
 -- steps that go to where a run does, with what ended it
-pub reaches : (k : ℕ) (c : Cursor) (e : Engine) (d v : List ℕ) (broken : Bool) (o : Reached)
-    → _≡_ {A = Reached} (record { steps = k; cursor = c; after = scene e d v; broken = broken }) o → Reaches k c e d v o
-reaches k c e d v broken o p i = record { steps = p i .steps; cursor = p i .cursor; after = p i .after; broken = o .broken }
+pub reaches : (k : ℕ) (c : Cursor) (s : Scene) (broken : Bool) (o : Reached)
+    → _≡_ {A = Reached} (record { steps = k; cursor = c; after = s; broken = broken }) o → Reaches k c s o
+reaches k c s broken o p i = record { steps = p i .steps; cursor = p i .cursor; after = p i .after; broken = o .broken }
 
 -- ---- runs of a list
 
@@ -212,7 +213,7 @@ module _ (l : List ℕ) (extent : Extent) where
         }
 
     pub going-takes : (x : Entry) → nextOf l c (s .engine .«under_way») ≡ Take x → (f : Engine) → f ≡ enteredOf extent (s .engine) x
-        → Going l extent budget c₀ s₀ (k + 1) (fetchedOf c) (scene f (s .display) (s .virt))
+        → Going l extent budget c₀ s₀ (k + 1) (fetchedOf c) (withTile extent f (s .display) (s .virt))
     going-takes x e f p =
         let rest = budget - (k + 1) in
         let split : budget - k ≡ suc rest = omega arith in
@@ -224,7 +225,7 @@ module _ (l : List ℕ) (extent : Extent) where
           display-long = going .display-long;
           virt-long = going .virt-long;
           same =
-              ap (λ f. longer (k + 1) (from rest (fetchedOf c) (scene f (s .display) (s .virt)))) p
+              ap (λ f. longer (k + 1) (from rest (fetchedOf c) (withTile extent f (s .display) (s .virt)))) p
               ∙ ap (λ i. longer i (from rest (fetchedOf c) t)) swap ∙ sym (longer-longer k 1 (from rest (fetchedOf c) t))
               ∙ ap (longer k) (sym (by-next rest c s (Take x) e)) ∙ ap (λ i. longer k (from i c s)) (sym split) ∙ going .same;
         }
@@ -273,36 +274,35 @@ module _ (l : List ℕ) (extent : Extent) where
               ∙ ap (longer k) (more .same) ∙ going .same;
         }
 
-    pub reaches-then : (j : ℕ) (d : Cursor) (e : Engine) (display virt : List ℕ) → Reaches j d e display virt (from (budget - k) c s)
-        → Reaches (k + j) d e display virt (from budget c₀ s₀)
-    reaches-then j d e display virt r =
+    pub reaches-then : (j : ℕ) (d : Cursor) (t : Scene) → Reaches j d t (from (budget - k) c s) → Reaches (k + j) d t (from budget c₀ s₀)
+    reaches-then j d t r =
         let swap : k + j ≡ j + k = omega arith in
         let broken = from (budget - k) c s .broken in
-        reaches (k + j) d e display virt broken (from budget c₀ s₀)
-        ((λ i. record { steps = swap i; cursor = d; after = scene e display virt; broken = broken }) ∙ ap (longer k) r ∙ going .same)
+        reaches (k + j) d t broken (from budget c₀ s₀)
+        ((λ i. record { steps = swap i; cursor = d; after = t; broken = broken }) ∙ ap (longer k) r ∙ going .same)
 
   -- entries taken while no command is under way: they change no buffer
   module _ (budget : ℕ) (c₀ : Cursor) (e₀ : Engine) where
     pub record Resting (k : ℕ) (c : Cursor) (e : Engine) : Type 0 where
       pub rests : e .«under_way» ≡ false
-      pub going : (d v : List ℕ) → Going l extent budget c₀ (scene e₀ d v) k c (scene e d v)
+      pub going : (d v : List ℕ) → Going l extent budget c₀ (withTile extent e₀ d v) k c (withTile extent e d v)
 
     pub resting-start : e₀ .«under_way» ≡ false → Resting 0 c₀ e₀
-    resting-start u = record { rests = u; going = λ d v. going-start budget c₀ (scene e₀ d v) }
+    resting-start u = record { rests = u; going = λ d v. going-start budget c₀ (withTile extent e₀ d v) }
 
     abbrev resting : ℕ → Cursor → Engine → Taken
     resting k c e = record { engine = e; cursor = c; steps = k; count = 0 }
 
     -- no command is under way at the end of the run
     rests-over : (k : ℕ) (c : Cursor) (e : Engine) → Resting k c e
-        → ((d v : List ℕ) → Reaches k c e d v (from budget c₀ (scene e₀ d v)))
+        → ((d v : List ℕ) → Reaches k c (withTile extent e d v) (from budget c₀ (withTile extent e₀ d v)))
         → EntriesTaken l extent budget c₀ e₀ (resting k c e)
     rests-over k c e r over =
         record { going = r .going; counted = λ u. absurd (false≢true (sym (r .rests) ∙ u)); over = λ _. over }
 
     -- one is under way, with its count
     pub entries-begun : (k : ℕ) (c : Cursor) (e : Engine) (n : ℕ)
-        → ((d v : List ℕ) → Going l extent budget c₀ (scene e₀ d v) k c (scene e d v))
+        → ((d v : List ℕ) → Going l extent budget c₀ (withTile extent e₀ d v) k c (withTile extent e d v))
         → e .«under_way» ≡ true → n ≡ countOf extent e
         → EntriesTaken l extent budget c₀ e₀ (record { engine = e; cursor = c; steps = k; count = n })
     entries-begun k c e n going u counted =
@@ -310,21 +310,21 @@ module _ (l : List ℕ) (extent : Extent) where
 
     pub entries-none : (n : ℕ) → e₀ .«under_way» ≡ true → n ≡ countOf extent e₀
         → EntriesTaken l extent budget c₀ e₀ (record { engine = e₀; cursor = c₀; steps = 0; count = n })
-    entries-none n u counted = entries-begun 0 c₀ e₀ n (λ d v. going-start budget c₀ (scene e₀ d v)) u counted
+    entries-none n u counted = entries-begun 0 c₀ e₀ n (λ d v. going-start budget c₀ (withTile extent e₀ d v)) u counted
 
     pub resting-spent : (k : ℕ) (c : Cursor) (e : Engine) → budget ≤ k → Resting k c e → EntriesTaken l extent budget c₀ e₀ (resting k c e)
     resting-spent k c e h r =
         rests-over k c e r
-        (λ d v. reaches k c e d v false (from budget c₀ (scene e₀ d v)) (going-spent budget c₀ (scene e₀ d v) k c (scene e d v) h (r .going d v)))
+        (λ d v. reaches k c (withTile extent e d v) false (from budget c₀ (withTile extent e₀ d v)) (going-spent budget c₀ (withTile extent e₀ d v) k c (withTile extent e d v) h (r .going d v)))
 
     module _ (k : ℕ) (c : Cursor) (e : Engine) (below : k < budget) (r : Resting k c e) where
       next-at : (x : Next) → nextOf l c false ≡ x → nextOf l c (e .«under_way») ≡ x
       next-at x h = ap (nextOf l c) (r .rests) ∙ h
 
       pub resting-takes : (x : Entry) → nextOf l c false ≡ Take x → (f : Engine) → f ≡ enteredOf extent e x
-          → (d v : List ℕ) → Going l extent budget c₀ (scene e₀ d v) (k + 1) (fetchedOf c) (scene f d v)
+          → (d v : List ℕ) → Going l extent budget c₀ (withTile extent e₀ d v) (k + 1) (fetchedOf c) (withTile extent f d v)
       resting-takes x h f p d v =
-          going-takes budget c₀ (scene e₀ d v) k c (scene e d v) below (r .going d v) x (next-at (Take x) h) f p
+          going-takes budget c₀ (withTile extent e₀ d v) k c (withTile extent e d v) below (r .going d v) x (next-at (Take x) h) f p
 
       -- an entry that triggers nothing leaves no command under way
       pub resting-goes : (x : Entry) → nextOf l c false ≡ Take x → isTrigger (x .register) ≡ false → (f : Engine) → f ≡ enteredOf extent e x
@@ -337,7 +337,7 @@ module _ (l : List ℕ) (extent : Extent) where
 
       pub resting-room : endOf (c₀ .span) < 4294967296 → (x : Entry) → nextOf l c false ≡ Take x → c .next + 1 < 4294967296
       resting-room fits x h =
-          going-room budget c₀ (scene e₀ [] []) k c (scene e [] []) below (r .going [] []) fits x (next-at (Take x) h)
+          going-room budget c₀ (withTile extent e₀ [] []) k c (withTile extent e [] []) below (r .going [] []) fits x (next-at (Take x) h)
 
       -- no entry is left, or the next one is illegal
       pub resting-stops : (x : Next) (broken : Bool) → nextOf l c false ≡ x
@@ -346,28 +346,28 @@ module _ (l : List ℕ) (extent : Extent) where
       resting-stops x broken h stops =
           rests-over k c e r
           (λ d v.
-          reaches k c e d v broken (from budget c₀ (scene e₀ d v))
-          (going-stops budget c₀ (scene e₀ d v) k c (scene e d v) below (r .going d v) x broken (next-at x h) (stops (scene e d v))))
+          reaches k c (withTile extent e d v) broken (from budget c₀ (withTile extent e₀ d v))
+          (going-stops budget c₀ (withTile extent e₀ d v) k c (withTile extent e d v) below (r .going d v) x broken (next-at x h) (stops (withTile extent e d v))))
 
   -- entries taken within a run
   module _ (budget : ℕ) (c₀ : Cursor) (s₀ : Scene) (k : ℕ) (c : Cursor) (e : Engine) (d v : List ℕ)
-      (going : Going l extent budget c₀ s₀ k c (scene e d v)) (r : Taken) (taken : EntriesTaken l extent (budget - k) c e r) where
-    pub entries-going : Going l extent budget c₀ s₀ (k + r .steps) (r .cursor) (scene (r .engine) d v)
-    entries-going = going-then budget c₀ s₀ k c (scene e d v) going (r .steps) (r .cursor) (scene (r .engine) d v) (taken .going d v)
+      (going : Going l extent budget c₀ s₀ k c (withTile extent e d v)) (r : Taken) (taken : EntriesTaken l extent (budget - k) c e r) where
+    pub entries-going : Going l extent budget c₀ s₀ (k + r .steps) (r .cursor) (withTile extent (r .engine) d v)
+    entries-going = going-then budget c₀ s₀ k c (withTile extent e d v) going (r .steps) (r .cursor) (withTile extent (r .engine) d v) (taken .going d v)
 
     abbrev ends : Bool
     ends = leb budget (k + r .steps) || not (r .engine .«under_way»)
 
     -- with the budget spent or no command under way, the run has ended
-    pub entries-end : ends ≡ true → Reaches (k + r .steps) (r .cursor) (r .engine) d v (from budget c₀ s₀)
+    pub entries-end : ends ≡ true → Reaches (k + r .steps) (r .cursor) (withTile extent (r .engine) d v) (from budget c₀ s₀)
     entries-end h =
         by-cases (leb budget (k + r .steps))
         (λ t.
-        reaches (k + r .steps) (r .cursor) (r .engine) d v false (from budget c₀ s₀)
-        (going-spent budget c₀ s₀ (k + r .steps) (r .cursor) (scene (r .engine) d v) (leb-true budget (k + r .steps) t) entries-going))
+        reaches (k + r .steps) (r .cursor) (withTile extent (r .engine) d v) false (from budget c₀ s₀)
+        (going-spent budget c₀ s₀ (k + r .steps) (r .cursor) (withTile extent (r .engine) d v) (leb-true budget (k + r .steps) t) entries-going))
         (λ t.
         let idle = not-true (r .engine .«under_way») (or-first (leb budget (k + r .steps)) (not (r .engine .«under_way»)) h t) in
-        reaches-then budget c₀ s₀ k c (scene e d v) going (r .steps) (r .cursor) (r .engine) d v (taken .over idle d v))
+        reaches-then budget c₀ s₀ k c (withTile extent e d v) going (r .steps) (r .cursor) (withTile extent (r .engine) d v) (taken .over idle d v))
 
     module _ (h : ends ≡ false) where
       pub entries-left : k + r .steps < budget
@@ -387,11 +387,11 @@ module _ (l : List ℕ) (extent : Extent) where
   run-none budget c s h = ap (λ t. cond t (from budget c s) (stopped c s false)) (sym (le-ltb (endOf (c .span)) 4294967296 h))
 
   -- what ended the steps, asked where they went to
-  pub ran-list : (budget : ℕ) (c : Cursor) (s : Scene) (r : Progress) (d v : List ℕ) (t : Bool) → endOf (c .span) < 4294967296
+  pub ran-list : (budget : ℕ) (c : Cursor) (s : Scene) (r : Held) (d v : List ℕ) (t : Bool) → endOf (c .span) < 4294967296
       → GoesTo r d v (from budget c s) → t ≡ endedOf (r .cursor) (r .engine .«under_way»)
-      → _≡_ {A = Reached} (record { steps = r .steps; cursor = r .cursor; after = scene (r .engine) d v; broken = ltb (r .steps) budget && not t })
+      → _≡_ {A = Reached} (record { steps = r .steps; cursor = r .cursor; after = scene (r .engine) (r .fill) d v; broken = ltb (r .steps) budget && not t })
       (listRun budget l extent c s)
   ran-list budget c s r d v t fits goes ended =
       let same = ap (λ t. ltb (r .steps) budget && not t) ended ∙ ap (endsBroken budget) goes ∙ broken-is budget c s in
-      (λ i. record { steps = r .steps; cursor = r .cursor; after = scene (r .engine) d v; broken = same i })
+      (λ i. record { steps = r .steps; cursor = r .cursor; after = scene (r .engine) (r .fill) d v; broken = same i })
       ∙ goes ∙ run-fits budget c s fits

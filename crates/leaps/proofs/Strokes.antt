@@ -29,16 +29,17 @@ use Rattle.commands.proofs.Tests.{count-line, position-line}
 use Rattle.sources.proofs.Reading.{source-solid, source-dash}
 use Rattle.entries.specs.Fields.{isBlit, isLine}
 use Rattle.sources.specs.Sources.{dashOf}
-use Rattle.commands.specs.Steps.{inked, patternAfter, visitsOf}
+use Rattle.tiles.specs.Tiles.{noFill}
+use Rattle.commands.specs.Steps.{scene, inked, patternAfter, visitsOf}
 use Rattle.commands.specs.declared.Engine.{Engine}
 use Rattle.sources.specs.declared.Source.the-variants.{Value, Nothing}
 use Rattle.leaps.specs.Leaps.{movedTo, movedBy, penIn, dashesIn, strokeIn, canLeap, goesByStroke}
-use Rattle.leaps.proofs.Visiting.{sceneOn, Marked, visits-are, Leaps, leaps-of}
+use Rattle.leaps.proofs.Visiting.{sceneOn, unfilled, Marked, visits-are, Leaps, leaps-of}
 use Rattle.leaps.proofs.Blits.{place-of-visit, code-small, ink-value}
 use Rattle.geometry.specs.declared.Extent.{Extent}
 
 -- a line is no blit
-not-blit : (c : Command) → isLine c ≡ true → isBlit c ≡ false
+pub not-blit : (c : Command) → isLine c ≡ true → isBlit c ≡ false
 not-blit c h =
     by-cases (isBlit c)
     (λ t. absurd (false≢true (sym (ap (λ n. eqb n 2 || eqb n 5) (eqb-true (c .opcode) 1 t)) ∙ h)))
@@ -79,11 +80,11 @@ module _ (extent : Extent) (e : Engine) (line : isLine (commandIn e) ≡ true) w
 
     -- with SOLID
     solid-mark : commandIn e .solid ≡ true → (d v l : List ℕ)
-        → inked here (sourceAt extent here (e .visited + k) d v) (targetOf extent here (e .visited + k)) l
+        → inked here (sourceAt extent here noFill (e .visited + k) d v) (targetOf extent here (e .visited + k)) l
         ≡ plotted (extent .width) window (penIn e (e .registers .fore)) (point k) l
     solid-mark s d v l =
         ap₂ (λ o p. inked here o p l)
-        (sym (source-solid (commandIn here) (here .registers) (here .pattern) extent (cellAt extent here (e .visited + k)) d v s))
+        (sym (source-solid (commandIn here) (here .registers) (here .pattern) extent noFill (cellAt extent here (e .visited + k)) d v s))
         place-is
         ∙ ink-plots extent here (e .registers .fore) (point k) l
 
@@ -93,12 +94,12 @@ module _ (extent : Extent) (e : Engine) (line : isLine (commandIn e) ≡ true) w
 
     -- in dashes
     dash-mark : commandIn e .solid ≡ false → (d v l : List ℕ)
-        → inked here (sourceAt extent here (e .visited + k) d v) (targetOf extent here (e .visited + k)) l
+        → inked here (sourceAt extent here noFill (e .visited + k) d v) (targetOf extent here (e .visited + k)) l
         ≡ dash (extent .width) window (dashesIn e) (point k) (dashed l q) .buffer
     unfolding dashOf dash
     dash-mark s d v l =
         ap₂ (λ o p. inked here o p l)
-        (sym (source-dash (commandIn here) (here .registers) (here .pattern) extent (cellAt extent here (e .visited + k)) d v s (not-blit (commandIn e) line)))
+        (sym (source-dash (commandIn here) (here .registers) (here .pattern) extent noFill (cellAt extent here (e .visited + k)) d v s (not-blit (commandIn e) line)))
         place-is
         ∙ by (patternBit (e .registers .lpat) q) (commandIn e .trnsp)
       where
@@ -123,7 +124,7 @@ module _ (extent : Extent) (e : Engine) (line : isLine (commandIn e) ≡ true) w
   abbrev dashState : List ℕ → ℕ → Dashed
   dashState l k = dashPixels (extent .width) window (dashesIn e) (pointOf (lineStart e)) (pointOf (e .registers .xy1)) (e .visited) k (dashed l (e .pattern))
 
-  pub solid-strokes : commandIn e .solid ≡ true → (to : Bool) (other l : List ℕ) → Marked extent e to other (solidState l)
+  pub solid-strokes : commandIn e .solid ≡ true → (to : Bool) (other l : List ℕ) → Marked extent e noFill to other (solidState l)
   unfolding pixelsOf
   solid-strokes s to other l =
       record {
@@ -133,7 +134,7 @@ module _ (extent : Extent) (e : Engine) (line : isLine (commandIn e) ≡ true) w
         patterns = λ k few. solid-pattern k (e .pattern) few s;
       }
 
-  dash-strokes : commandIn e .solid ≡ false → (to : Bool) (other l : List ℕ) → Marked extent e to other (dashState l)
+  dash-strokes : commandIn e .solid ≡ false → (to : Bool) (other l : List ℕ) → Marked extent e noFill to other (dashState l)
   unfolding dashPixels
   dash-strokes s to other l =
       record {
@@ -209,14 +210,16 @@ module _ (extent : Extent) (e : Engine) (n display virt : ℕ) (g : Goes extent 
     (moved : f ≡ movedBy extent e n (s .pattern)) (to : Bool) (drawn : commandIn e .«to_virtual» ≡ to) (own other : List ℕ)
     (own-long : length own ≡ extent .width * extent .height) where
   -- the states that the visits leave
-  visits-to : (t : ℕ → Dashed) → t 0 ≡ dashed own (e .pattern) → Marked extent e to other t → s ≡ t n
-      → sceneOn f to (s .buffer) other ≡ visitsOf n extent (sceneOn e to own other)
+  visits-to : (t : ℕ → Dashed) → t 0 ≡ dashed own (e .pattern) → Marked extent e noFill to other t → s ≡ t n
+      → scene f noFill (cond to other (s .buffer)) (cond to (s .buffer) other) ≡ visitsOf n extent (scene e noFill (cond to other own) (cond to own other))
   visits-to t start marked is =
-      (λ i. sceneOn ((moved ∙ ap (λ (s : Dashed). movedBy extent e n (s .pattern)) is) i) to (is i .buffer) other)
-      ∙ sym (visits-are extent e to other t drawn (g .leaps .under-way) (g .leaps .some) (ap (λ (s : Dashed). s .pattern) start) marked n (g .leaps .few))
-      ∙ ap (λ (s : Dashed). visitsOf n extent (sceneOn e to (s .buffer) other)) start
+      sym (unfilled f (cond to other (s .buffer)) (cond to (s .buffer) other))
+      ∙ (λ i. sceneOn noFill ((moved ∙ ap (λ (s : Dashed). movedBy extent e n (s .pattern)) is) i) to (is i .buffer) other)
+      ∙ sym (visits-are extent e noFill to other t drawn (g .leaps .under-way) (g .leaps .some) (ap (λ (s : Dashed). s .pattern) start) marked n (g .leaps .few))
+      ∙ ap (λ (s : Dashed). visitsOf n extent (sceneOn noFill e to (s .buffer) other)) start
+      ∙ ap (visitsOf n extent) (unfilled e (cond to other own) (cond to own other))
 
-  pub stroke-is : s ≡ strokeIn extent e n own → sceneOn f to (s .buffer) other ≡ visitsOf n extent (sceneOn e to own other)
+  pub stroke-is : s ≡ strokeIn extent e n own → scene f noFill (cond to other (s .buffer)) (cond to (s .buffer) other) ≡ visitsOf n extent (scene e noFill (cond to other own) (cond to own other))
   unfolding strokeIn pixelsOf dashPixels
   stroke-is h =
       let a = pointOf (lineStart e) in

@@ -11,29 +11,47 @@ use Rattle.lemmas.proofs.Booleans.{by-cases, and-left, and-right}
 use Rattle.registers.specs.declared.dashes.Pattern.{Pattern}
 use Rattle.strokes.specs.Strokes.{Dashed}
 use Rattle.commands.specs.Visits.{commandIn, shows, countOf, targetOf, sourceAt}
+use Rattle.tiles.specs.Tiles.{noFill}
+use Rattle.tiles.specs.declared.Fill.{Fill}
+use Rattle.commands.specs.Hatching.{fillAfter}
 use Rattle.commands.specs.Steps.{Scene, scene, inked, patternAfter, advancedBy, advancedOf, visitBy, visitOf, visitsBy, visitsOf}
 use Rattle.commands.specs.declared.Engine.{Engine}
 use Rattle.commands.proofs.Bounds.{count-same}
 use Rattle.leaps.specs.Leaps.{movedTo, finishedAt, movedBy, canLeap}
 use Rattle.geometry.specs.declared.Extent.{Extent}
 
--- An engine beside the buffer that it draws on, which is the virtual one where `to` is true, and the other one.
-abbrev pub sceneOn : Engine → Bool → List ℕ → List ℕ → Scene
-sceneOn e to own other = scene e (cond to other own) (cond to own other)
+-- An engine beside the buffer that it draws on, which is the virtual one where `to` is true, and the other one; with the tile of
+-- its fill while that is under way.
+abbrev pub sceneOn : Fill → Engine → Bool → List ℕ → List ℕ → Scene
+sceneOn tile e to own other = scene e (fillAfter e tile) (cond to other own) (cond to own other)
 
-visit-on : (extent : Extent) (f : Engine) (to : Bool) (own other : List ℕ) → commandIn f .«to_virtual» ≡ to →
+-- no tile stays none
+none-stays : (b : Bool) → cond b noFill noFill ≡ noFill
+none-stays true = refl
+none-stays false = refl
+
+pub unfilled : (e : Engine) (d v : List ℕ) → scene e (fillAfter e noFill) d v ≡ scene e noFill d v
+unfilled e d v = ap (λ f. scene e f d v) (none-stays (e .«under_way»))
+
+visit-on : (extent : Extent) (tile : Fill) (e : Engine) (m : ℕ) (q : Pattern) (to : Bool) (own other : List ℕ) →
+    let f = movedTo e m q in
+    commandIn f .«to_virtual» ≡ to →
     let at = targetOf extent f (f .visited) in
-    let s = sourceAt extent f (f .visited) (cond to other own) (cond to own other) in
-    visitOf extent (sceneOn f to own other) ≡ sceneOn (advancedOf extent f) to (inked f s at own) other
+    let s = sourceAt extent f tile (f .visited) (cond to other own) (cond to own other) in
+    visitOf extent (sceneOn tile f to own other) ≡ sceneOn tile (advancedOf extent f) to (inked f s at own) other
 unfolding visitBy
-visit-on extent f true own other v =
+visit-on extent tile e m q true own other v =
+    let f = movedTo e m q in
+    let g = advancedOf extent f in
     let at = targetOf extent f (f .visited) in
-    let s = sourceAt extent f (f .visited) other own in
-    ap (λ t. scene (advancedOf extent f) (cond t other (inked f s at other)) (cond t (inked f s at own) own)) v
-visit-on extent f false own other v =
+    let s = sourceAt extent f tile (f .visited) other own in
+    ap (λ t. scene g (fillAfter g tile) (cond t other (inked f s at other)) (cond t (inked f s at own) own)) v
+visit-on extent tile e m q false own other v =
+    let f = movedTo e m q in
+    let g = advancedOf extent f in
     let at = targetOf extent f (f .visited) in
-    let s = sourceAt extent f (f .visited) own other in
-    ap (λ t. scene (advancedOf extent f) (cond t own (inked f s at own)) (cond t (inked f s at other) other)) v
+    let s = sourceAt extent f tile (f .visited) own other in
+    ap (λ t. scene g (fillAfter g tile) (cond t own (inked f s at own)) (cond t (inked f s at other) other)) v
 
 same-test : (v m c : ℕ) → v + m < c → ltb (v + m + 1) c ≡ ltb (suc m) (c - v)
 same-test v m c h =
@@ -69,31 +87,30 @@ module _ (extent : Extent) (e : Engine) where
       let none : e .visited ≡ e .visited + 0 = omega arith in
       λ i. record { «under_way» = h i; visited = none i; registers = e .registers; pattern = e .pattern; last = e .last }
 
-  module _ (to : Bool) (other : List ℕ) (t : ℕ → Dashed) where
+  module _ (tile : Fill) (to : Bool) (other : List ℕ) (t : ℕ → Dashed) where
     -- each state is a visit after the one before
     pub record Marked : Type 0 where
       pub buffers : (k : ℕ) → e .visited + k < countOf extent e →
           let f = movedTo e k (t k .pattern) in
           let own = t k .buffer in
-          inked f (sourceAt extent f (e .visited + k) (cond to other own) (cond to own other)) (targetOf extent f (e .visited + k)) own
+          inked f (sourceAt extent f tile (e .visited + k) (cond to other own) (cond to own other)) (targetOf extent f (e .visited + k)) own
           ≡ t (suc k) .buffer
       pub patterns : (k : ℕ) → e .visited + k < countOf extent e → patternAfter (movedTo e k (t k .pattern)) ≡ t (suc k) .pattern
 
     module _ (drawn : commandIn e .«to_virtual» ≡ to) (under-way : e .«under_way» ≡ true) (some : e .visited < countOf extent e)
         (first : t 0 .pattern ≡ e .pattern) (marked : Marked) where
       pub visits-are : (n : ℕ) → e .visited + n ≤ countOf extent e
-          → visitsOf n extent (sceneOn e to (t 0 .buffer) other) ≡ sceneOn (movedBy extent e n (t n .pattern)) to (t n .buffer) other
+          → visitsOf n extent (sceneOn tile e to (t 0 .buffer) other) ≡ sceneOn tile (movedBy extent e n (t n .pattern)) to (t n .buffer) other
       unfolding visitsBy
       visits-are zero few =
-          ap (λ f. sceneOn f to (t 0 .buffer) other)
+          ap (λ f. sceneOn tile f to (t 0 .buffer) other)
           (starts under-way ∙ ap (movedTo e 0) (sym first) ∙ sym (moved-within 0 (t 0 .pattern) (omega (arith, some))))
       visits-are (suc m) few =
           let here : e .visited + m < countOf extent e = omega (arith, few) in
-          let f = movedTo e m (t m .pattern) in
           ap (visitOf extent)
-          (visits-are m (omega (arith, few)) ∙ ap (λ f. sceneOn f to (t m .buffer) other) (moved-within m (t m .pattern) here))
-          ∙ visit-on extent f to (t m .buffer) other drawn
-          ∙ (λ i. sceneOn ((advance m (t m .pattern) here ∙ ap (movedBy extent e (suc m)) (marked .patterns m here)) i) to (marked .buffers m here i) other)
+          (visits-are m (omega (arith, few)) ∙ ap (λ f. sceneOn tile f to (t m .buffer) other) (moved-within m (t m .pattern) here))
+          ∙ visit-on extent tile e m (t m .pattern) to (t m .buffer) other drawn
+          ∙ (λ i. sceneOn tile ((advance m (t m .pattern) here ∙ ap (movedBy extent e (suc m)) (marked .patterns m here)) i) to (marked .buffers m here i) other)
 
 -- what lets visits be done at once
 pub record Leaps (extent : Extent) (e : Engine) (n display virt : ℕ) : Type 0 where

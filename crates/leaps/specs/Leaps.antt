@@ -1,7 +1,8 @@
 -- Many visits of one command at once: what the row and line loops are given. The visits themselves are those of `commands`.
-use mathlib.Core.Bool.{Bool, true, false, cond, _&&_}
+use mathlib.Core.Path.{_≡_}
+use mathlib.Core.Bool.{Bool, true, false, not, cond, _&&_}
 use mathlib.Core.List.{List}
-use Prim.Native.Nat.{ℕ, _+_, _-_, _*_, _%_}
+use Prim.Native.Nat.{ℕ, _+_, _-_, _*_, _%_, _<_, max}
 use lib.Dec.{eqb, leb, ltb}
 use Rattle.raster.specs.Selectors.{penOf, selectorsOf}
 use Rattle.raster.specs.declared.Pen.{Pen}
@@ -15,6 +16,7 @@ use Rattle.rows.specs.declared.Mix.{Mix}
 use Rattle.stipples.specs.declared.Stipple.{Stipple}
 use Rattle.blits.specs.declared.Blit.{Blit}
 use Rattle.blits.specs.declared.Paint.{Paint}
+use Rattle.blits.specs.declared.tiled.Tiling.{Tiling}
 use Rattle.blits.specs.declared.Paint.the-variants.{Solid, Copied, Moved, Stippled, StippledWithin}
 use Rattle.entries.specs.Fields.{patternControlOf, isBlit, isLine}
 use Rattle.registers.specs.declared.dashes.Pattern.{Pattern}
@@ -22,7 +24,10 @@ use Rattle.registers.specs.declared.file.Registers.{Registers}
 use Rattle.strokes.specs.Strokes.{strokeOf, Dashed, dashed, dashesOf}
 use Rattle.strokes.specs.declared.Dashes.{Dashes}
 use Rattle.commands.specs.Visits.{commandIn, lineStart, windowIn, countOf}
+use Rattle.commands.specs.Hatching.{hatches, fillTaken}
+use Rattle.commands.specs.Steps.{Scene, scene, visitsOf}
 use Rattle.commands.specs.declared.Engine.{Engine}
+use Rattle.leaps.specs.declared.visits.Burst.{Burst}
 
 -- The pen of a value. FORE, BACK, MASK and KEY are bytes where the registers are legal.
 abbrev pub penIn : Engine → ℕ → Pen
@@ -69,6 +74,19 @@ blitIn extent e =
       size = e .registers .xy2;
       direction = e .registers .xy3;
       paint = paintOf e;
+    }
+
+-- With APAT it draws a tile (02, R-7).
+abbrev pub tilingIn : Extent → Engine → Tiling
+tilingIn extent e =
+    record {
+      selectors = mixIn e .selectors;
+      width = extent .width;
+      height = extent .height;
+      window = windowIn extent (e .registers);
+      to = e .registers .xy1;
+      size = e .registers .xy2;
+      direction = e .registers .xy3;
     }
 
 -- Visit k of those that the window shows is this one of all visits of the blit; and n visits of `count`, from the next one on,
@@ -122,10 +140,10 @@ canLeap extent e n display virt =
     && eqb display (extent .width * extent .height)
     && eqb virt (extent .width * extent .height)
 
--- Row by row, and by a line's error term.
+-- Row by row, from no tile, and by a line's error term.
 unfoldable pub goesByRows : Extent → Engine → ℕ → ℕ → ℕ → Bool
 goesByRows extent e n display virt =
-    canLeap extent e n display virt && isBlit (commandIn e) && ltb (e .registers .key) 256
+    canLeap extent e n display virt && isBlit (commandIn e) && not (commandIn e .apat) && ltb (e .registers .key) 256
 
 unfoldable pub goesByStroke : Extent → Engine → ℕ → ℕ → ℕ → Bool
 goesByStroke extent e n display virt =
@@ -133,3 +151,25 @@ goesByStroke extent e n display virt =
     && isLine (commandIn e)
     && ltb 1 (countOf extent e)
     && leb (extent .height) 65536
+
+-- Row by row from a tile.
+unfoldable pub goesByTile : Extent → Engine → ℕ → ℕ → ℕ → Bool
+goesByTile extent e n display virt =
+    canLeap extent e n display virt && isBlit (commandIn e) && commandIn e .apat && not (commandIn e .solid)
+
+-- Engine and buffers after n visits. The fill is then that of the visits, and no code's affair.
+abbrev pub Visited : ℕ → Extent → Scene → Engine → List ℕ → List ℕ → Type 0
+Visited n extent s e display virt = scene e (visitsOf n extent s .fill) display virt ≡ visitsOf n extent s
+
+-- An engine after an entry, or with no fill under way: its tile is the one that stands in the buffers.
+abbrev pub withTile : Extent → Engine → List ℕ → List ℕ → Scene
+withTile extent e display virt = scene e (fillTaken extent e display virt) display virt
+
+-- The visits that are left, and one where the count says that none is.
+abbrev pub leftIn : Extent → Engine → ℕ
+leftIn extent e = max 1 (countOf extent e - e .visited)
+
+-- n visits after which no tile is held; or none, of a fill with a tile that n do not end.
+pub record Bursts (n : ℕ) (extent : Extent) (e : Engine) (d v : List ℕ) (r : Burst) (d′ v′ : List ℕ) : Type 0 where
+  pub some : 0 < r .steps → (r .steps ≡ n) × (withTile extent (r .engine) d′ v′ ≡ visitsOf n extent (withTile extent e d v))
+  pub none : r .steps ≡ 0 → (hatches e ≡ true) × (n < leftIn extent e) × (withTile extent (r .engine) d′ v′ ≡ withTile extent e d v)

@@ -12,10 +12,16 @@ use Rattle.lists.specs.declared.cursors.Cursor.{Cursor}
 use Rattle.lists.specs.declared.cursors.Next.{Next}
 use Rattle.lists.specs.declared.cursors.Next.the-variants.{Ended, Visit, Take, Broken}
 use Rattle.commands.specs.Visits.{countOf}
+use Rattle.tiles.specs.Tiles.{noFill}
+use Rattle.tiles.specs.declared.Fill.{Fill}
+use Rattle.commands.specs.Hatching.{hatches, fillAfter}
 use Rattle.commands.specs.Steps.{Scene, scene, visitOf, visitsOf, takenOf}
 use Rattle.commands.specs.declared.Engine.{Engine}
 use Rattle.leaps.specs.declared.list_runs.Taken.{Taken}
 use Rattle.leaps.specs.declared.list_runs.Progress.{Progress}
+use Rattle.leaps.specs.declared.list_runs.Held.{Held}
+use Rattle.leaps.specs.declared.visits.Burst.{Burst}
+use Rattle.leaps.specs.Leaps.{withTile, leftIn}
 use Rattle.leaps.specs.declared.list_runs.ListRun.{ListRun}
 
 -- Steps done, with the list and the scene after them, and whether an illegal entry ended them.
@@ -26,15 +32,20 @@ pub record Reached : Type 0 where
   pub broken : Bool
 
 abbrev pub reached : ListRun → List ℕ → List ℕ → Reached
-reached r d v = record { steps = r .steps; cursor = r .cursor; after = scene (r .engine) d v; broken = r .broken }
+reached r d v =
+    record { steps = r .steps; cursor = r .cursor; after = scene (r .engine) (r .fill) d v; broken = r .broken }
 
 -- The same but for what ended them.
-abbrev pub Reaches : ℕ → Cursor → Engine → List ℕ → List ℕ → Reached → Type 0
-Reaches steps cursor engine d v o =
-    _≡_ {A = Reached} (record { steps = steps; cursor = cursor; after = scene engine d v; broken = o .broken }) o
+abbrev pub Reaches : ℕ → Cursor → Scene → Reached → Type 0
+Reaches steps cursor after o =
+    _≡_ {A = Reached} (record { steps = steps; cursor = cursor; after = after; broken = o .broken }) o
 
-abbrev pub GoesTo : Progress → List ℕ → List ℕ → Reached → Type 0
-GoesTo r d v o = Reaches (r .steps) (r .cursor) (r .engine) d v o
+abbrev pub GoesTo : Held → List ℕ → List ℕ → Reached → Type 0
+GoesTo r d v o = Reaches (r .steps) (r .cursor) (scene (r .engine) (r .fill) d v) o
+
+-- What is held with an engine: the tile of a fill that is under way.
+abbrev pub heldBy : Engine → Fill → Fill
+heldBy e fill = cond (hatches e) fill noFill
 
 abbrev pub stopped : Cursor → Scene → Bool → Reached
 stopped c s broken = record { steps = 0; cursor = c; after = s; broken = broken }
@@ -75,10 +86,30 @@ pub record Going (l : List ℕ) (extent : Extent) (budget : ℕ) (c₀ : Cursor)
   pub virt-long : length (s .virt) ≡ length (s₀ .virt)
   pub same : longer k (runFrom (budget - k) l extent c s) ≡ runFrom budget l extent c₀ s₀
 
--- Entries taken within a run, which read and change no buffer: with a command under way, its count is told; with none, the run
--- has ended.
+-- The command under way visited, within the budget; or not at all, if it is a fill with a tile that the budget cuts.
+pub record BurstDone (budget : ℕ) (extent : Extent) (e : Engine) (d v : List ℕ) (r : Burst) (d′ v′ : List ℕ) : Type 0 where
+  pub some : 0 < r .steps → VisitsDone budget extent (withTile extent e d v) (r .steps) (withTile extent (r .engine) d′ v′)
+  pub none : r .steps ≡ 0 → (hatches e ≡ true) × (budget < leftIn extent e) × (withTile extent (r .engine) d′ v′ ≡ withTile extent e d v)
+
+-- Entries taken within a run, which change no buffer: with a command under way, its count is told; with none, the run has ended.
 pub record EntriesTaken (l : List ℕ) (extent : Extent) (budget : ℕ) (c₀ : Cursor) (e₀ : Engine) (r : Taken) : Type 0 where
-  pub going : (d v : List ℕ) → Going l extent budget c₀ (scene e₀ d v) (r .steps) (r .cursor) (scene (r .engine) d v)
+  pub going : (d v : List ℕ) → Going l extent budget c₀ (withTile extent e₀ d v) (r .steps) (r .cursor) (withTile extent (r .engine) d v)
   pub counted : r .engine .«under_way» ≡ true → r .count ≡ countOf extent (r .engine)
   pub over : r .engine .«under_way» ≡ false → (d v : List ℕ)
-      → Reaches (r .steps) (r .cursor) (r .engine) d v (runFrom budget l extent c₀ (scene e₀ d v))
+      → Reaches (r .steps) (r .cursor) (withTile extent (r .engine) d v) (runFrom budget l extent c₀ (withTile extent e₀ d v))
+
+-- Steps with no tile held: the run has ended, or has come to a fill with a tile that the budget cuts.
+pub record Unheld (l : List ℕ) (extent : Extent) (budget : ℕ) (c₀ : Cursor) (s₀ : Scene) (r : Progress) (d v : List ℕ) : Type 0 where
+  pub going : Going l extent budget c₀ s₀ (r .steps) (r .cursor) (withTile extent (r .engine) d v)
+  pub cut : hatches (r .engine) ≡ true → budget - r .steps < leftIn extent (r .engine)
+  pub over : hatches (r .engine) ≡ false
+      → Reaches (r .steps) (r .cursor) (withTile extent (r .engine) d v) (runFrom budget l extent c₀ s₀)
+
+-- k visits of a fill with a tile: all that the budget allows, up to its last pixel. Of another scene none.
+pub record HatchDone (budget : ℕ) (extent : Extent) (s : Scene) (k : ℕ) (e : Engine) (d v : List ℕ) : Type 0 where
+  pub idle : hatches (s .engine) ≡ false → (k ≡ 0) × (scene e (s .fill) d v ≡ s)
+  pub going : hatches (s .engine) ≡ true → (l : List ℕ) (c : Cursor) → Going l extent budget c s k c (scene e (fillAfter e (s .fill)) d v)
+  pub spent : hatches (s .engine) ≡ true → budget ≤ leftIn extent (s .engine) → budget ≤ k
+  pub still : hatches e ≡ true → budget ≤ k
+  pub few : k ≤ budget
+  pub rests : hatches (s .engine) ≡ true → hatches e ≡ false → e .«under_way» ≡ false

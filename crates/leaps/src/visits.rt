@@ -3,13 +3,17 @@ ghost use mathlib.Core.Path.{_≡_};
 ghost use mathlib.Core.Bool.{true, false};
 ghost use Prim.Native.Nat.{_+_, _≤_, _<_};
 ghost use lib.ListN.{length};
+ghost use Rattle.tiles.specs.Tiles.{noFill};
 ghost use Rattle.commands.specs.Visits.{commandIn, countOf};
+ghost use Rattle.commands.specs.Hatching.{fillAfter};
 ghost use Rattle.commands.specs.Steps.{scene, visitsOf};
 ghost use Rattle.strokes.specs.Strokes.{dashed};
-ghost use Rattle.leaps.specs.Leaps.{mixIn, stippleIn, paintOf, blitIn, stretchOf, penIn, strokeIn, movedBy, canLeap, goesByRows, goesByStroke};
+ghost use Rattle.leaps.specs.Leaps.{mixIn, stippleIn, paintOf, blitIn, stretchOf, penIn, strokeIn, movedBy, canLeap, tilingIn, goesByRows, goesByStroke, goesByTile, Visited, leftIn, Bursts};
 use blits::Blit;
 use blits::Paint;
+use blits::Tiling;
 use blits::draw_blit;
+use blits::draw_tiled;
 use commands::Engine;
 use entries::command_of;
 use entries::pattern_control_of;
@@ -28,6 +32,8 @@ use stipples::Stipple;
 use strokes::Dashes;
 use strokes::draw_dashes;
 use strokes::draw_line;
+use tiles::Fill;
+use tiles::no_fill;
 
 fn mix(e: Engine) -> Mix
     ensures { λ r. ⌜ r ≡ mixIn e ⌝ }
@@ -166,7 +172,7 @@ fn visit_rows(
     virt: &mut [u8],
 ) -> Engine
     requires { ⌜ (goesByRows extent e n (length (now display)) (length (now virt)) ≡ true) × (count ≡ countOf extent e) ⌝ }
-    ensures { λ r. ⌜ scene r (now (display .exit)) (now (virt .exit)) ≡ visitsOf n extent (scene e (now (display .entry)) (now (virt .entry))) ⌝ }
+    ensures { λ r. ⌜ scene r noFill (now (display .exit)) (now (virt .exit)) ≡ visitsOf n extent (scene e noFill (now (display .entry)) (now (virt .entry))) ⌝ }
 {
     let g = e.registers;
     let c = command_of(g.cmd);
@@ -232,7 +238,7 @@ fn visit_stroke(
     virt: &mut [u8],
 ) -> Engine
     requires { ⌜ (goesByStroke extent e n (length (now display)) (length (now virt)) ≡ true) × (count ≡ countOf extent e) ⌝ }
-    ensures { λ r. ⌜ scene r (now (display .exit)) (now (virt .exit)) ≡ visitsOf n extent (scene e (now (display .entry)) (now (virt .entry))) ⌝ }
+    ensures { λ r. ⌜ scene r noFill (now (display .exit)) (now (virt .exit)) ≡ visitsOf n extent (scene e noFill (now (display .entry)) (now (virt .entry))) ⌝ }
 {
     let g = e.registers;
     let c = command_of(g.cmd);
@@ -256,19 +262,167 @@ fn visit_stroke(
 fn visit_each(
     start: Engine,
     extent: Extent,
+    fill: Fill,
     n: usize,
     display: &mut [u8],
     virt: &mut [u8],
 ) -> Engine
-    ensures { λ r. ⌜ scene r (now (display .exit)) (now (virt .exit)) ≡ visitsOf n extent (scene start (now (display .entry)) (now (virt .entry))) ⌝ }
+    ensures { λ r. ⌜ Visited n extent (scene start fill (now (display .entry)) (now (virt .entry))) r (now (display .exit)) (now (virt .exit)) ⌝ }
 {
     let mut e = start;
+    let mut f = fill;
     let mut k: usize = 0;
     while k < n {
-        e = e.visit(extent, display, virt);
+        e = e.visit(extent, f, display, virt);
+        f = e.fill_after(f);
         k += 1;
     }
     e
+}
+
+// The blit in CMD from a tile, on a buffer of that extent.
+fn tiling(e: Engine, extent: Extent) -> Tiling
+    ensures { λ r. ⌜ r ≡ tilingIn extent e ⌝ }
+{
+    let g = e.registers;
+    let c = command_of(g.cmd);
+    Tiling {
+        selectors: Selectors::new(c.code, (g.mask % 256) as u8),
+        width: extent.width,
+        height: extent.height,
+        window: e.window(extent),
+        to: g.xy1,
+        size: g.xy2,
+        direction: g.xy3,
+    }
+}
+
+// n pixels of a fill with a tile visited, row by row.
+fn hatch_rows(
+    e: Engine,
+    extent: Extent,
+    fill: Fill,
+    count: usize,
+    n: usize,
+    display: &mut [u8],
+    virt: &mut [u8],
+) -> Engine
+    requires { ⌜ (goesByTile extent e n (length (now display)) (length (now virt)) ≡ true) × (count ≡ countOf extent e) ⌝ }
+    ensures { λ r. ⌜ scene r (fillAfter r fill) (now (display .exit)) (now (virt .exit)) ≡ visitsOf n extent (scene e fill (now (display .entry)) (now (virt .entry))) ⌝ }
+{
+    let g = e.registers;
+    let c = command_of(g.cmd);
+    let t = tiling(e, extent);
+    let after = moved_by(e, extent, count, n, e.pattern);
+    let s = stretch(e, t.window, count, n);
+    let first = s.from;
+    let m = saturating_sub(s.past, s.from);
+    if !fill.whole {
+        return after;
+    }
+    let tile = fill.tile;
+    if c.to_virtual {
+        draw_tiled(t, tile, first, m, virt);
+    } else {
+        draw_tiled(t, tile, first, m, display);
+    }
+    after
+}
+
+// n pixels of a fill with a tile.
+pub(crate) fn visit_hatched(
+    e: Engine,
+    extent: Extent,
+    fill: Fill,
+    count: usize,
+    n: usize,
+    display: &mut [u8],
+    virt: &mut [u8],
+) -> Engine
+    requires { ⌜ count ≡ countOf extent e ⌝ }
+    ensures { λ r. ⌜ Visited n extent (scene e fill (now (display .entry)) (now (virt .entry))) r (now (display .exit)) (now (virt .exit)) ⌝ }
+{
+    let g = e.registers;
+    let c = command_of(g.cmd);
+    let leaps = can_leap(e, extent, count, n, display.len(), virt.len());
+    let blit = c.is_blit();
+    if leaps & blit & c.apat & !c.solid {
+        return hatch_rows(e, extent, fill, count, n, display, virt);
+    }
+    visit_each(e, extent, fill, n, display, virt)
+}
+
+// All pixels of a fill with a tile at once, where n are all.
+fn hatch_whole(
+    e: Engine,
+    extent: Extent,
+    fill: Fill,
+    count: usize,
+    n: usize,
+    display: &mut [u8],
+    virt: &mut [u8],
+) -> Engine
+    requires { ⌜ count ≡ countOf extent e ⌝ }
+    ensures { λ r. ⌜ Visited n extent (scene e fill (now (display .entry)) (now (virt .entry))) r (now (display .exit)) (now (virt .exit)) ⌝ }
+{
+    let g = e.registers;
+    let c = command_of(g.cmd);
+    let leaps = can_leap(e, extent, count, n, display.len(), virt.len());
+    let blit = c.is_blit();
+    if !(leaps & blit & c.apat & !c.solid & (n == count)) {
+        return visit_hatched(e, extent, fill, count, n, display, virt);
+    }
+    let after = moved_by(e, extent, count, n, e.pattern);
+    if !fill.whole {
+        return after;
+    }
+    let t = tiling(e, extent);
+    let tile = fill.tile;
+    if c.to_virtual {
+        draw_tiled(t, tile, 0, blit_count(g.xy2), virt);
+    } else {
+        draw_tiled(t, tile, 0, blit_count(g.xy2), display);
+    }
+    after
+}
+
+// The engine after a number of steps.
+pub struct Burst {
+    pub engine: Engine,
+    pub steps: u64,
+}
+
+// n pixels visited of a command that goes neither by rows nor by its error term: all that are left of a fill with a tile, which
+// is then held nowhere; none where n are not all.
+fn visit_rest(
+    e: Engine,
+    extent: Extent,
+    count: usize,
+    n: usize,
+    display: &mut [u8],
+    virt: &mut [u8],
+) -> Burst
+    requires { ⌜ (e .«under_way» ≡ true) × (0 < n) × (n ≤ leftIn extent e) × (count ≡ countOf extent e) ⌝ }
+    ensures { λ r. ⌜ Bursts n extent e (now (display .entry)) (now (virt .entry)) r (now (display .exit)) (now (virt .exit)) ⌝ }
+{
+    if !e.hatches() {
+        let none = no_fill();
+        return Burst {
+            engine: visit_each(e, extent, none, n, display, virt),
+            steps: n as u64,
+        };
+    }
+    if n < saturating_sub(count, e.visited as usize) {
+        return Burst {
+            engine: e,
+            steps: 0,
+        };
+    }
+    let fill = e.fill_taken(extent, display, virt);
+    Burst {
+        engine: hatch_whole(e, extent, fill, count, n, display, virt),
+        steps: n as u64,
+    }
 }
 
 // n pixels visited, of a command that visits `count`.
@@ -279,20 +433,26 @@ pub(crate) fn visit_counted(
     n: usize,
     display: &mut [u8],
     virt: &mut [u8],
-) -> Engine
-    requires { ⌜ count ≡ countOf extent e ⌝ }
-    ensures { λ r. ⌜ scene r (now (display .exit)) (now (virt .exit)) ≡ visitsOf n extent (scene e (now (display .entry)) (now (virt .entry))) ⌝ }
+) -> Burst
+    requires { ⌜ (e .«under_way» ≡ true) × (0 < n) × (n ≤ leftIn extent e) × (count ≡ countOf extent e) ⌝ }
+    ensures { λ r. ⌜ Bursts n extent e (now (display .entry)) (now (virt .entry)) r (now (display .exit)) (now (virt .exit)) ⌝ }
 {
     let g = e.registers;
     let c = command_of(g.cmd);
     let leaps = can_leap(e, extent, count, n, display.len(), virt.len());
     let blit = c.is_blit();
-    if leaps & blit & (g.key < 256) {
-        return visit_rows(e, extent, count, n, display, virt);
+    if leaps & blit & !c.apat & (g.key < 256) {
+        return Burst {
+            engine: visit_rows(e, extent, count, n, display, virt),
+            steps: n as u64,
+        };
     }
     let line = c.is_line();
     if leaps & line & (1 < count) & (extent.height <= 65536) {
-        return visit_stroke(e, extent, count, n, display, virt);
+        return Burst {
+            engine: visit_stroke(e, extent, count, n, display, virt),
+            steps: n as u64,
+        };
     }
-    visit_each(e, extent, n, display, virt)
+    visit_rest(e, extent, count, n, display, virt)
 }

@@ -1,3 +1,4 @@
+pub mod FillTrips
 pub mod RoundTrips
 pub mod Calls
 pub mod Refusals

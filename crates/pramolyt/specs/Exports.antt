@@ -14,7 +14,8 @@ use Rattle.feeds.specs.declared.Feed.{Feed}
 use Rattle.packing.specs.Conversions.{Converted, packOf, unpackOf}
 use Rattle.pramolyt.specs.Image.{words, wordsOf, boardOf, flagsOk}
 
--- An image with a flag that is neither 0 nor 1 is no record's: the answer is 1, "record malformed".
+-- An image with a flag that is neither 0 nor 1, or with words of a tile that is not held, is no record's: the answer is 1, "record
+-- malformed".
 abbrev pub ofImage : {A : Type 0} → List ℕ → A → A → A
 ofImage w done refused = cond (flagsOk w) done refused
 

@@ -1,8 +1,8 @@
 -- The board record as an image of 32-bit words (01, What the engine has: "The board record has the three sizes, an active slot, a
 -- pending slot, the next entry, whether a command is under way, the visited pixels of that command, the registers, the
--- pattern state and the last point").
+-- pattern state and the last point"), with the fill after them (02, R-7).
 use mathlib.Core.Path.{_≡_}
-use mathlib.Core.Bool.{Bool, true, false, _&&_}
+use mathlib.Core.Bool.{Bool, true, false, _&&_, _||_}
 use mathlib.Core.List.{List, [], _∷_, _++_}
 use Prim.Native.Nat.{ℕ, _+_}
 use lib.Dec.{eqb, ltb}
@@ -14,6 +14,7 @@ use Rattle.slots.specs.Slots.{slotOf}
 use Rattle.slots.specs.declared.record.Sizes.{Sizes}
 use Rattle.slots.specs.declared.record.Slot.{Slot}
 use Rattle.board.specs.declared.record.Board.{Board}
+use Rattle.pramolyt.specs.FillImage.{fillAt, fillWords, fillIn, tileBlankIn, Kept}
 
 -- Where each part begins, in that order, and how many words there are.
 abbrev pub sizesAt : ℕ
@@ -41,7 +42,7 @@ abbrev pub lastAt : ℕ
 lastAt = 27
 
 abbrev pub words : ℕ
-words = 28
+words = 61
 
 -- A flag is 1 or 0.
 abbrev pub flagOf : Bool → ℕ
@@ -79,6 +80,7 @@ wordsOf b =
     ++ registersWords (b .engine .registers)
     ++ patternWords (b .engine .pattern)
     ++ lastWords (b .engine)
+    ++ fillWords (b .fill)
 
 -- Words put into an image from a place on.
 abbrev pub putWords : List ℕ → ℕ → List ℕ → List ℕ
@@ -135,20 +137,26 @@ boardOf w =
       active = record { taken = a .taken; cursor = record { span = a .span; next = getD w nextAt 0 } };
       pending = slotIn pendingAt w;
       engine = engineIn w;
+      fill = fillIn w;
     }
 
--- Whether each of the three flags is 0 or 1.
+-- Whether each of the four flags is 0 or 1, and zeros stand where no tile is held.
 abbrev pub flagsOk : List ℕ → Bool
-flagsOk w = ltb (getD w activeAt 0) 2 && ltb (getD w pendingAt 0) 2 && ltb (getD w commandAt 0) 2
+flagsOk w =
+    ltb (getD w activeAt 0) 2
+    && ltb (getD w pendingAt 0) 2
+    && ltb (getD w commandAt 0) 2
+    && ltb (getD w fillAt 0) 2
+    && (eqb (getD w fillAt 0) 1 || tileBlankIn w)
 
 -- A record comes back from its image; proved in proofs/RoundTrips.antt.
 abbrev pub DecodesEncoded : Type 0
-DecodesEncoded = (b : Board) → boardOf (wordsOf b) ≡ b
+DecodesEncoded = (b : Board) → Kept (b .fill) → boardOf (wordsOf b) ≡ b
 
--- The flags of a record's image are 0 or 1; proved there too.
+-- The flags of a record's image are 0 or 1, and zeros stand where it holds no tile; proved there too.
 abbrev pub EncodesFlags : Type 0
 EncodesFlags = (b : Board) → flagsOk (wordsOf b) ≡ true
 
--- An image whose flags are 0 or 1 comes back from its record, word for word; proved there too.
+-- An image of which that is true comes back from its record, word for word; proved there too.
 abbrev pub EncodesDecoded : Type 0
 EncodesDecoded = (w : List ℕ) → length w ≡ words → flagsOk w ≡ true → wordsOf (boardOf w) ≡ w

@@ -1,2 +1,3 @@
+pub mod FillImage
 pub mod Image
 pub mod Exports

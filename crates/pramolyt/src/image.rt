@@ -2,6 +2,9 @@
 ghost use mathlib.Core.Path.{_≡_};
 ghost use Prim.Native.Nat.{_+_, _≤_};
 ghost use Rattle.pramolyt.specs.Image.{sizesAt, commandAt, registersAt, patternAt, lastAt, words, flagOf, putWords, sizesWords, slotWords, commandWords, registersWords, patternWords, lastWords, wordsOf, sizesIn, slotIn, registersIn, patternIn, engineIn, boardOf, flagsOk};
+use crate::fill_image::fill_in;
+use crate::fill_image::put_fill;
+use crate::fill_image::tile_blank_in;
 use board::Board;
 use commands::Engine;
 use geometry::Extent;
@@ -30,7 +33,11 @@ const PATTERN: usize = 25;
 
 const LAST: usize = 27;
 
-pub(crate) const WORDS: usize = 28;
+pub(crate) const FILL: usize = 28;
+
+pub(crate) const TILE: usize = 29;
+
+pub(crate) const WORDS: usize = 61;
 
 fn flag(b: bool) -> u32
     ensures { λ r. ⌜ r ≡ flagOf b ⌝ }
@@ -38,11 +45,15 @@ fn flag(b: bool) -> u32
     if b { 1 } else { 0 }
 }
 
-// Whether each flag is 0 or 1.
+// Whether each flag is 0 or 1, and zeros stand where no tile is held.
 pub(crate) fn flags_ok(w: [u32; WORDS]) -> bool
     ensures { λ r. ⌜ r ≡ flagsOk w ⌝ }
 {
-    (w[ACTIVE] < 2) & (w[PENDING] < 2) & (w[COMMAND] < 2)
+    (w[ACTIVE] < 2)
+        & (w[PENDING] < 2)
+        & (w[COMMAND] < 2)
+        & (w[FILL] < 2)
+        & ((w[FILL] == 1) | tile_blank_in(w))
 }
 
 fn sizes_in(w: [u32; WORDS]) -> Sizes
@@ -133,6 +144,7 @@ pub(crate) fn decode(w: [u32; WORDS]) -> Board
         },
         pending: p,
         engine: e,
+        fill: fill_in(w),
     }
 }
 
@@ -200,10 +212,11 @@ pub(crate) fn encode(b: Board) -> [u32; WORDS]
     let p = b.pending;
     let e = b.engine;
     let g = e.registers;
+    let f = b.fill;
     let blank = [0; WORDS];
     let sized = put_sizes(blank, z);
     let active = put_slot(sized, ACTIVE, a.slot());
     let mut both = put_slot(active, PENDING, p);
     both[NEXT] = c.next;
-    put_command(put_registers(both, g), e)
+    put_fill(put_command(put_registers(both, g), e), f)
 }

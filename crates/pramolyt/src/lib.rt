@@ -5,6 +5,7 @@ ghost use mathlib.Core.Path.{_≡_};
 ghost use Rattle.pramolyt.specs.Exports.{made, makeImage, posted, postImage, changed, storeImage, writeImage, pictured, exportImage, importImage, ran, runImage, feedOf, received, feedImage, filed, packFile, unpackFile};
 ghost use Rattle.feeds.specs.Feeds.{startAt};
 
+mod fill_image;
 mod image;
 
 use board::Board;
@@ -17,7 +18,7 @@ use packing::pack;
 use packing::unpack;
 
 #[no_mangle]
-pub extern "C" fn pramolyt_make_r1(
+pub extern "C" fn pramolyt_make_r2(
     board: &mut [u32; WORDS],
     width: usize,
     height: usize,
@@ -32,7 +33,7 @@ pub extern "C" fn pramolyt_make_r1(
 }
 
 #[no_mangle]
-pub extern "C" fn pramolyt_post_r1(
+pub extern "C" fn pramolyt_post_r2(
     board: &mut [u32; WORDS],
     place: &mut u64,
     list: &[u8],
@@ -55,7 +56,7 @@ pub extern "C" fn pramolyt_post_r1(
 }
 
 #[no_mangle]
-pub extern "C" fn pramolyt_store_r1(
+pub extern "C" fn pramolyt_store_r2(
     board: &mut [u32; WORDS],
     list: &mut [u8],
     first: usize,
@@ -75,7 +76,7 @@ pub extern "C" fn pramolyt_store_r1(
 }
 
 #[no_mangle]
-pub extern "C" fn pramolyt_window_write_r1(
+pub extern "C" fn pramolyt_window_write_r2(
     board: &mut [u32; WORDS],
     number: usize,
     offset: usize,
@@ -96,7 +97,7 @@ pub extern "C" fn pramolyt_window_write_r1(
 }
 
 #[no_mangle]
-pub extern "C" fn pramolyt_export_r1(
+pub extern "C" fn pramolyt_export_r2(
     board: &mut [u32; WORDS],
     written: &mut u64,
     number: usize,
@@ -119,7 +120,7 @@ pub extern "C" fn pramolyt_export_r1(
 }
 
 #[no_mangle]
-pub extern "C" fn pramolyt_import_r1(
+pub extern "C" fn pramolyt_import_r2(
     board: &mut [u32; WORDS],
     number: usize,
     picture: &[u8],
@@ -139,7 +140,7 @@ pub extern "C" fn pramolyt_import_r1(
 }
 
 #[no_mangle]
-pub extern "C" fn pramolyt_run_r1(
+pub extern "C" fn pramolyt_run_r2(
     board: &mut [u32; WORDS],
     steps: &mut u64,
     budget: u64,
@@ -163,7 +164,7 @@ pub extern "C" fn pramolyt_run_r1(
 }
 
 #[no_mangle]
-pub extern "C" fn pramolyt_feed_start_fields_r1(
+pub extern "C" fn pramolyt_feed_start_fields_r2(
     next: &mut u64,
     held: &mut [u8; 4],
     count: &mut u32,
@@ -179,7 +180,7 @@ pub extern "C" fn pramolyt_feed_start_fields_r1(
 }
 
 #[no_mangle]
-pub extern "C" fn pramolyt_feed_fields_r1(
+pub extern "C" fn pramolyt_feed_fields_r2(
     board: &mut [u32; WORDS],
     next: &mut u64,
     held: &mut [u8; 4],
@@ -211,7 +212,7 @@ pub extern "C" fn pramolyt_feed_fields_r1(
 }
 
 #[no_mangle]
-pub extern "C" fn pramolyt_pack_r1(
+pub extern "C" fn pramolyt_pack_r2(
     written: &mut u64,
     place: &mut u64,
     input: &[u8],
@@ -226,7 +227,7 @@ pub extern "C" fn pramolyt_pack_r1(
 }
 
 #[no_mangle]
-pub extern "C" fn pramolyt_unpack_r1(
+pub extern "C" fn pramolyt_unpack_r2(
     written: &mut u64,
     place: &mut u64,
     input: &[u8],

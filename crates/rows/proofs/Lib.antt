@@ -5,3 +5,4 @@ pub mod Tests
 pub mod Mixing
 pub mod Plain
 pub mod Fitting
+pub mod Tiles

@@ -80,17 +80,17 @@ module _ (f h q : ℕ → ℕ → ℕ) (n p k z b : ℕ) (l m r : List ℕ) (at 
       ∙ sym (right-out f n l at i v)))
 
 -- what was drawn aside
-kept : (g : ℕ → ℕ → ℕ) (b : ℕ) (w t : List ℕ) → b ≤ length w → t ≡ right g b w 0 → (j : ℕ) → j < b → getD t (0 + j) 0 ≡ g j (getD w (0 + j) 0)
+pub kept : (g : ℕ → ℕ → ℕ) (b : ℕ) (w t : List ℕ) → b ≤ length w → t ≡ right g b w 0 → (j : ℕ) → j < b → getD t (0 + j) 0 ≡ g j (getD w (0 + j) 0)
 kept g b w t room et j v =
     let e : 0 + j - 0 ≡ j = omega arith in
     rw et (rw e at (right-in g b w 0 (omega arith) (0 + j) (omega arith) (omega arith)))
 
 -- the same on a copy s of the old bytes
-aside : (f g : ℕ → ℕ → ℕ) (z b : ℕ) (l w s t : List ℕ) (u : ℕ) → b ≤ length w → ((j d : ℕ) → g j d ≡ f (z + j) d)
+aside : (f g : ℕ → ℕ → ℕ) (z b : ℕ) (l w s t : List ℕ) (u : ℕ) → b ≤ length w → ((j d : ℕ) → j < b → g j d ≡ f (z + j) d)
     → s ≡ copied (λ s d. s) b w 0 l u → t ≡ right g b s 0 → (j d : ℕ) → j < b → getD t (0 + j) 0 ≡ f (z + j) (getD l (u + j) 0)
 aside f g z b l w s t u room same es et j d v =
     let long : length s ≡ length w = ap length es ∙ right-length (λ j d. getD l (u + j) 0) b w 0 in
-    kept g b s t (omega arith) et j v ∙ ap (g j) (kept (λ j d. getD l (u + j) 0) b w s room es j v) ∙ same j (getD l (u + j) 0)
+    kept g b s t (omega arith) et j v ∙ ap (g j) (kept (λ j d. getD l (u + j) 0) b w s room es j v) ∙ same j (getD l (u + j) 0) v
 
 -- one byte, k pixels or more and then the last b
 pub filled-twice : (x n k b : ℕ) (l m r : List ℕ) (at : ℕ) → at + n ≤ length l → b ≤ n → n ≤ k + b → k ≤ n
@@ -116,7 +116,7 @@ copied-twice n b l m w t r at source from fits small enough room em et er =
 -- k pixels of a row or more, and its last b aside
 module _ (n k z b : ℕ) (l m w s t r : List ℕ) (at : ℕ) (fits : at + n ≤ length l) (whole : z + b ≡ n) (enough : z ≤ k) (part : k ≤ n)
     (room : b ≤ length w) (es : s ≡ copied (λ s d. s) b w 0 l (at + z)) (er : r ≡ copied (λ s d. s) b m (at + z) t 0) where
-  last-aside : (f g h : ℕ → ℕ → ℕ) → ((j d : ℕ) → h j d ≡ f (0 + j) d) → ((j d : ℕ) → g j d ≡ f (z + j) d)
+  pub last-aside : (f g h : ℕ → ℕ → ℕ) → ((j d : ℕ) → h j d ≡ f (0 + j) d) → ((j d : ℕ) → j < b → g j d ≡ f (z + j) d)
       → m ≡ right h k l at → t ≡ right g b s 0 → r ≡ right f n l at
   last-aside f g h early late em et =
       parts f h (λ j d. getD t (0 + j) 0) n 0 k z b l m r at at (at + z) fits (omega arith) refl (omega arith) (omega arith)
@@ -124,14 +124,14 @@ module _ (n k z b : ℕ) (l m w s t r : List ℕ) (at : ℕ) (fits : at + n ≤ 
       (aside f g z b l w s t (at + z) room late es et) em er
 
   pub filled-last : (p : Pen) → m ≡ filled p k l at → t ≡ filled p b s 0 → r ≡ filled p n l at
-  filled-last p = last-aside (λ j. drawn p) (λ j. drawn p) (λ j. drawn p) (λ j d. refl) (λ j d. refl)
+  filled-last p = last-aside (λ j. drawn p) (λ j. drawn p) (λ j. drawn p) (λ j d. refl) (λ j d v. refl)
 
   pub copied-last : (f : ℕ → ℕ → ℕ) (source : List ℕ) (from : ℕ) → m ≡ copied f k l at source from → t ≡ copied f b s 0 source (from + z)
       → r ≡ copied f n l at source from
   copied-last f source from =
       last-aside (λ j. f (getD source (from + j) 0)) (λ j. f (getD source (from + z + j) 0)) (λ j. f (getD source (from + j) 0))
       (λ j d. let e : from + j ≡ from + (0 + j) = omega arith in rw e)
-      (λ j d. let e : from + z + j ≡ from + (z + j) = omega arith in rw e)
+      (λ j d v. let e : from + z + j ≡ from + (z + j) = omega arith in rw e)
 
   pub moved-last : (f : ℕ → ℕ → ℕ) (from : ℕ) → (at ≤ from) ⊎ (from + n ≤ at) → m ≡ moved f k l at from
       → t ≡ copied f b s 0 l (from + z) → r ≡ moved f n l at from
@@ -151,6 +151,15 @@ moved-back-last f n k b l m w s t r at from fits x y small enough part room c em
     (λ i v c. ⊎-elim (λ x. (omega arith, omega arith)) (λ x. (omega arith, omega arith)) c)
     (λ j d. let e : from - k + j ≡ from - n + (n - k + j) = omega arith in rw e)
     (aside row (λ j. f (getD l (from - n + j) 0)) 0 b l w s t (at - n) room
-    (λ j d. let e : from - n + j ≡ from - n + (0 + j) = omega arith in rw e) es et)
+    (λ j d v. let e : from - n + j ≡ from - n + (0 + j) = omega arith in rw e) es et)
     (em ∙ moved-back-aside f k l at from (⊎-elim (λ x. inl x) (λ x. inr (omega arith)) c) (omega arith) (omega arith)) er
     ∙ sym (moved-back-aside f n l at from c x y)
+
+-- k pixels of a row or more, and then its last b, where no new byte depends on the old one
+pub last-over : (f g h : ℕ → ℕ → ℕ) (n k z b : ℕ) (l m r : List ℕ) (at : ℕ) → at + n ≤ length l → z + b ≡ n → z ≤ k → k ≤ n
+    → ((j d e : ℕ) → f j d ≡ f j e) → ((j d : ℕ) → h j d ≡ f (0 + j) d) → ((j d : ℕ) → j < b → g j d ≡ f (z + j) d)
+    → m ≡ right h k l at → r ≡ right g b m (at + z) → r ≡ right f n l at
+last-over f g h n k z b l m r at fits whole enough part alone early late =
+    parts f h g n 0 k z b l m r at at (at + z) fits (omega arith) refl (omega arith) (omega arith)
+    (λ i v c. ⊎-elim (λ x. (omega arith, omega arith)) (λ x. (omega arith, omega arith)) c) early
+    (λ j d v. late j d v ∙ alone (z + j) d (getD l (at + z + j) 0))

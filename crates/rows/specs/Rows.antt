@@ -1,12 +1,15 @@
 -- Rows of pixels (01, Pixels): one visit after the other, each on the bytes as they stand at that visit.
-use mathlib.Core.Bool.{cond, _&&_}
+use mathlib.Core.Path.{_≡_}
+use mathlib.Core.Bool.{false, cond, _&&_}
 use mathlib.Core.List.{List}
-use Prim.Native.Nat.{ℕ, _+_, _-_}
+use Prim.Native.Nat.{ℕ, _+_, _-_, _*_, _%_, _<_}
+use lib.Bits.{bitAnd, bitXor}
 use lib.Dec.{eqb, leb}
 use lib.ListN.{length, getD}
 use Rattle.lemmas.specs.Sweeps.{sweep}
 use Rattle.raster.specs.Selectors.{drawn, selected}
 use Rattle.raster.specs.declared.Pen.{Pen}
+use Rattle.raster.specs.declared.Selectors.{Selectors}
 use Rattle.rows.specs.declared.Mix.{Mix}
 
 -- The new byte from a source byte and an old one: a source byte equal to KEY, with KEY set, draws nothing.
@@ -50,3 +53,31 @@ movedRow m n l at from = cond (leb (at + n) (length l) && leb (from + n) (length
 unfoldable pub movedBackRow : Mix → ℕ → List ℕ → ℕ → ℕ → List ℕ
 movedBackRow m n l at from =
     cond (leb n at && leb n from && leb at (length l) && leb from (length l)) (movedBack (mixed m) n l at from) l
+
+-- The source is a row of a tile (02, R-7), whose pixels go round every sixteen; no KEY.
+abbrev pub unkeyed : Selectors → Mix
+unkeyed q = record { selectors = q; keyed = false; key = 0 }
+
+abbrev pub tiled : (ℕ → ℕ → ℕ) → ℕ → List ℕ → ℕ → (ℕ → ℕ) → List ℕ
+tiled f n l at pixel = sweep (λ k. at + k) (λ k m. f (pixel k) (getD m (at + k) 0)) n l
+
+unfoldable pub tiledRow : Selectors → ℕ → List ℕ → ℕ → (ℕ → ℕ) → List ℕ
+tiledRow q n l at pixel = cond (leb (at + n) (length l)) (tiled (mixed (unkeyed q)) n l at pixel) l
+
+-- A row of a tile is kept twice, in 32 bytes, so that its sixteen pixels from any column on lie side by side: row y mod 8 of
+-- the eight in 256 bytes.
+pub record Twice (pixel : ℕ → ℕ) (wide : List ℕ) (y : ℕ) : Type 0 where
+  pub long : length wide ≡ 256
+  pub again : (i : ℕ) → pixel (i + 16) ≡ pixel i
+  pub there : (i : ℕ) → i < 32 → getD wide (32 * (y % 8) + i) 0 ≡ pixel i
+
+-- The new byte where the old one does not count.
+abbrev pub covered : Selectors → ℕ → ℕ → ℕ
+covered q s d = bitXor (bitAnd s (q .source)) (q .none)
+
+-- A row of n pixels that go round every sixteen: the sixteen that begin with its first pixel are at `from`, and the sixteen that end
+-- with its last one are at `last`.
+pub record Periodic (pixel : ℕ → ℕ) (n : ℕ) (source : List ℕ) (from last : ℕ) : Type 0 where
+  pub period : (i : ℕ) → pixel (i + 16) ≡ pixel i
+  pub first : (i : ℕ) → i < 16 → getD source (from + i) 0 ≡ pixel i
+  pub final : (i : ℕ) → i < 16 → getD source (last + i) 0 ≡ pixel (n + i)

@@ -1,7 +1,8 @@
-// Rows of pixels at once: of one source byte, copied from another buffer, and copied within one buffer; byte by byte
-// (by_bytes.rt), in blocks (by_blocks.rt), or as bytes that nothing is mixed with (unmixed.rt).
+// Rows of pixels at once: of one source byte, copied from another buffer, copied within one buffer, and of a tile (tiled.rt);
+// byte by byte (by_bytes.rt), in blocks (by_blocks.rt), or as bytes that nothing is mixed with (unmixed.rt).
 mod by_blocks;
 mod by_bytes;
+mod tiled;
 mod unmixed;
 
 ghost use mathlib.Core.Path.{_≡_};
@@ -9,7 +10,8 @@ ghost use mathlib.Core.Bool.{true};
 ghost use Prim.Native.Nat.{ℕ, _+_, _<_, _≤_};
 ghost use lib.Dec.{leb};
 ghost use lib.ListN.{length};
-ghost use Rattle.rows.specs.Rows.{mixed, filled, copied, moved, movedBack, filledRow, copiedRow, movedRow, movedBackRow};
+ghost use Rattle.rows.specs.Rows.{mixed, unkeyed, covered, filled, copied, moved, movedBack, Twice};
+ghost use Rattle.rows.specs.Rows.{filledRow, copiedRow, movedRow, movedBackRow, tiledRow};
 use crate::by_blocks::draw_long;
 use crate::by_blocks::draw_short;
 use crate::by_blocks::mix_long;
@@ -20,6 +22,8 @@ use crate::by_bytes::is_clear;
 use crate::by_bytes::mix_bytes;
 use crate::by_bytes::mix_within;
 use crate::by_bytes::mix_within_back;
+use crate::tiled::cover_row;
+use crate::tiled::mix_row;
 use crate::unmixed::copy_plain;
 use crate::unmixed::fill_plain;
 use crate::unmixed::move_plain;
@@ -174,4 +178,41 @@ pub fn move_row_back(buffer: &mut [u8], at: usize, from: usize, n: usize, mix: M
         return;
     }
     move_pixels_back(buffer, at, from, n, mix);
+}
+
+// True only where the old byte does not count.
+fn covers(q: Selectors) -> bool
+    ensures { λ r. ⌜ (r ≡ true → (s d : ℕ) → covered q s d ≡ mixed (unkeyed q) s d) ⌝ }
+{
+    (q.both == 0) & (q.old == 0)
+}
+
+// n pixels of a tile from `at` on, from column x of row y on; `wide` has the tile's rows, each twice.
+pub fn tile_row(
+    buffer: &mut [u8],
+    at: usize,
+    n: usize,
+    wide: &[u8],
+    x: usize,
+    y: usize,
+    selectors: Selectors,
+)
+    ensures { λ _. ⌜ ((pixel : ℕ → ℕ) → Twice pixel (now (wide .entry)) y → now (buffer .exit) ≡ tiledRow selectors n (now (buffer .entry)) at (λ k. pixel (x + k))) ⌝ }
+{
+    if !(fits(buffer.len(), at, n) & (wide.len() == 256)) {
+        return;
+    }
+    let row = 32 * (y % 8);
+    let from = row + x % 16;
+    let last = row + (x % 16 + n % 16) % 16;
+    if covers(selectors) {
+        cover_row(buffer, at, n, wide, from, last, selectors);
+        return;
+    }
+    let mix = Mix {
+        selectors,
+        keyed: false,
+        key: 0,
+    };
+    mix_row(buffer, at, n, wide, from, last, mix);
 }

@@ -1,7 +1,7 @@
 -- The source of a visit, by the tests that it passes; of a blit's bits, by the byte that holds the bit.
 -- Assumes nothing.
 use Rattle.geometry.specs.declared.Visit.the-variants.{At as VisitAt}
-use mathlib.Core.Path.{_≡_, ap, sym, _∙_}
+use mathlib.Core.Path.{_≡_, ap, ap₂, sym, _∙_}
 use mathlib.Core.Bool.{Bool, true, false, cond, _&&_}
 use mathlib.Core.List.{List}
 use Prim.Native.Nat.{ℕ, _+_, _-_, _*_, _/_, _%_, _≤_, _<_}
@@ -11,8 +11,9 @@ use lib.Dec.{eqb, ltb}
 use lib.ListN.{getD}
 use Rattle.raster.specs.Raster.{bit}
 use Rattle.lemmas.proofs.Booleans.{by-cases, first-of, second-of}
-use Rattle.geometry.specs.Coordinates.{origin}
+use Rattle.geometry.specs.Coordinates.{origin, pointOf}
 use Rattle.geometry.specs.Clip.{inBuffer, placeOf}
+use Rattle.geometry.specs.Blit.{cellVisit}
 use Rattle.geometry.specs.declared.Cell.{Cell}
 use Rattle.geometry.specs.declared.Extent.{Extent}
 use Rattle.geometry.specs.declared.Point.{Point}
@@ -23,7 +24,9 @@ use Rattle.entries.specs.Fields.{isBlit}
 use Rattle.entries.specs.declared.fields.Command.{Command}
 use Rattle.registers.specs.declared.file.Registers.{Registers}
 use Rattle.registers.specs.declared.dashes.Pattern.{Pattern}
-use Rattle.sources.specs.Sources.{readFrom, keyed, readAt, copiedAt, copiedOf, byBit, stippledAt, stippledOf, readOf, dashOf, sourceOf}
+use Rattle.tiles.specs.Tiles.{pixelOf}
+use Rattle.tiles.specs.declared.Fill.{Fill}
+use Rattle.sources.specs.Sources.{readFrom, keyed, readAt, copiedAt, copiedOf, byBit, stippledAt, stippledOf, tiledAt, tiledOf, readOf, blitOf, dashOf, sourceOf}
 use Rattle.sources.specs.declared.Source.{Source}
 use Rattle.sources.specs.declared.Source.the-variants.{Value, Nothing}
 
@@ -83,22 +86,49 @@ module _ (c : Command) (g : Registers) (extent : Extent) (l : List ℕ) (p : Poi
       (λ t. rw (bits-in width height p h, t, column p))
       (λ t. rw (bits-in width height p h, t))
 
+-- a tile's pixel, by where the cell's pixel lies in the destination
+pub tiled-by : (g : Registers) (fill : Fill) (cell : Cell) (v w : Visit) → v ≡ cellVisit (pointOf (g .xy1)) (g .xy3) cell → v ≡ w
+    → tiledAt fill w ≡ tiledOf g fill cell
+unfolding tiledOf
+tiled-by g fill cell v w p q = ap (tiledAt fill) (sym q ∙ p)
+
+module _ (fill : Fill) (at : Point) where
+  pub tile-missing : fill .whole ≡ false → Nothing ≡ tiledAt fill (VisitAt at)
+  tile-missing h = second-of (fill .whole) (Value (pixelOf (fill .tile) (at .x - origin) (at .y - origin))) Nothing h
+
+  pub tile-pixel : fill .whole ≡ true → (x y v : ℕ) → x ≡ at .x - origin → y ≡ at .y - origin → v ≡ pixelOf (fill .tile) x y
+      → Value v ≡ tiledAt fill (VisitAt at)
+  tile-pixel h x y v p q r =
+      ap Value (r ∙ ap₂ (pixelOf (fill .tile)) p q)
+      ∙ first-of (fill .whole) (Value (pixelOf (fill .tile) (at .x - origin) (at .y - origin))) Nothing h
+
 -- the source, by the tests that it passes
-module _ (c : Command) (g : Registers) (p : Pattern) (extent : Extent) (cell : Cell) (display virt : List ℕ) where
-  pub source-solid : c .solid ≡ true → Value (g .fore) ≡ sourceOf c g p extent cell display virt
+module _ (c : Command) (g : Registers) (p : Pattern) (extent : Extent) (fill : Fill) (cell : Cell) (display virt : List ℕ) where
+  pub source-solid : c .solid ≡ true → Value (g .fore) ≡ sourceOf c g p extent fill cell display virt
   unfolding sourceOf
-  source-solid h = first-of (c .solid) (Value (g .fore)) (cond (isBlit c) (readOf c g extent cell (cond (c .«from_virtual») virt display)) (dashOf c g p)) h
+  source-solid h =
+      first-of (c .solid) (Value (g .fore))
+      (cond (isBlit c) (blitOf c g extent fill cell (cond (c .«from_virtual») virt display)) (dashOf c g p)) h
 
-  pub source-read : c .solid ≡ false → isBlit c ≡ true → (b : Bool) → c .«from_virtual» ≡ b
-      → readOf c g extent cell (cond b virt display) ≡ sourceOf c g p extent cell display virt
+  pub source-blit : c .solid ≡ false → isBlit c ≡ true
+      → blitOf c g extent fill cell (cond (c .«from_virtual») virt display) ≡ sourceOf c g p extent fill cell display virt
   unfolding sourceOf
-  source-read h k b f =
-      let read = readOf c g extent cell (cond (c .«from_virtual») virt display) in
+  source-blit h k =
+      let blit = blitOf c g extent fill cell (cond (c .«from_virtual») virt display) in
+      first-of (isBlit c) blit (dashOf c g p) k ∙ second-of (c .solid) (Value (g .fore)) (cond (isBlit c) blit (dashOf c g p)) h
+
+  pub source-tiled : c .solid ≡ false → isBlit c ≡ true → c .apat ≡ true → tiledOf g fill cell ≡ sourceOf c g p extent fill cell display virt
+  source-tiled h k a =
+      first-of (c .apat) (tiledOf g fill cell) (readOf c g extent cell (cond (c .«from_virtual») virt display)) a ∙ source-blit h k
+
+  pub source-read : c .solid ≡ false → isBlit c ≡ true → c .apat ≡ false → (b : Bool) → c .«from_virtual» ≡ b
+      → readOf c g extent cell (cond b virt display) ≡ sourceOf c g p extent fill cell display virt
+  source-read h k a b f =
       ap (λ b. readOf c g extent cell (cond b virt display)) (sym f)
-      ∙ first-of (isBlit c) read (dashOf c g p) k ∙ second-of (c .solid) (Value (g .fore)) (cond (isBlit c) read (dashOf c g p)) h
+      ∙ second-of (c .apat) (tiledOf g fill cell) (readOf c g extent cell (cond (c .«from_virtual») virt display)) a ∙ source-blit h k
 
-  pub source-dash : c .solid ≡ false → isBlit c ≡ false → dashOf c g p ≡ sourceOf c g p extent cell display virt
+  pub source-dash : c .solid ≡ false → isBlit c ≡ false → dashOf c g p ≡ sourceOf c g p extent fill cell display virt
   unfolding sourceOf
   source-dash h k =
-      let read = readOf c g extent cell (cond (c .«from_virtual») virt display) in
-      second-of (isBlit c) read (dashOf c g p) k ∙ second-of (c .solid) (Value (g .fore)) (cond (isBlit c) read (dashOf c g p)) h
+      let blit = blitOf c g extent fill cell (cond (c .«from_virtual») virt display) in
+      second-of (isBlit c) blit (dashOf c g p) k ∙ second-of (c .solid) (Value (g .fore)) (cond (isBlit c) blit (dashOf c g p)) h

@@ -20,6 +20,8 @@ use Rattle.entries.specs.declared.fields.Command.{Command}
 use Rattle.registers.specs.Patterns.{patternBit}
 use Rattle.registers.specs.declared.file.Registers.{Registers}
 use Rattle.registers.specs.declared.dashes.Pattern.{Pattern}
+use Rattle.tiles.specs.Tiles.{pixelOf}
+use Rattle.tiles.specs.declared.Fill.{Fill}
 use Rattle.sources.specs.declared.Source.{Source}
 use Rattle.sources.specs.declared.Source.the-variants.{Value, Nothing}
 
@@ -63,16 +65,28 @@ stippledAt c g extent buffer Past = Nothing
 unfoldable pub stippledOf : Command → Registers → Extent → Cell → List ℕ → Source
 stippledOf c g extent cell buffer = stippledAt c g extent buffer (readFrom g cell)
 
+-- A blit with APAT (02, R-7): "Destination (x, y) then uses column x mod 16, row y mod 8 of the tile." "If the tile isn't wholly
+-- inside its source buffer, nothing is drawn".
+abbrev pub tiledAt : Fill → Visit → Source
+tiledAt fill (VisitAt p) = cond (fill .whole) (Value (pixelOf (fill .tile) (p .x - origin) (p .y - origin))) Nothing
+tiledAt fill Past = Nothing
+
+unfoldable pub tiledOf : Registers → Fill → Cell → Source
+tiledOf g fill cell = tiledAt fill (cellVisit (pointOf (g .xy1)) (g .xy3) cell)
+
 -- A line: "the pattern bit: 1 FORE, 0 BACK, or nothing with TRNSP".
 unfoldable pub dashOf : Command → Registers → Pattern → Source
 dashOf c g p = byBit c g (patternBit (g .lpat) p)
 
--- "Source is FORE with SOLID"; else the source buffer's bit or pixel for a blit, and the pattern's for a line. "Each visit
--- reads source and destination as they stand at that visit": the buffers are those before the visit.
+-- "Source is FORE with SOLID"; else the tile's pixel, or the source buffer's bit or pixel, for a blit, and the pattern's for a
+-- line. "Each visit reads source and destination as they stand at that visit": the buffers are those before the visit.
 abbrev pub readOf : Command → Registers → Extent → Cell → List ℕ → Source
 readOf c g extent cell buffer = cond (c .stpl) (stippledOf c g extent cell buffer) (copiedOf c g extent cell buffer)
 
-unfoldable pub sourceOf : Command → Registers → Pattern → Extent → Cell → List ℕ → List ℕ → Source
-sourceOf c g p extent cell display virt =
+abbrev pub blitOf : Command → Registers → Extent → Fill → Cell → List ℕ → Source
+blitOf c g extent fill cell buffer = cond (c .apat) (tiledOf g fill cell) (readOf c g extent cell buffer)
+
+unfoldable pub sourceOf : Command → Registers → Pattern → Extent → Fill → Cell → List ℕ → List ℕ → Source
+sourceOf c g p extent fill cell display virt =
     cond (c .solid) (Value (g .fore))
-    (cond (isBlit c) (readOf c g extent cell (cond (c .«from_virtual») virt display)) (dashOf c g p))
+    (cond (isBlit c) (blitOf c g extent fill cell (cond (c .«from_virtual») virt display)) (dashOf c g p))

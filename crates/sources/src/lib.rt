@@ -1,8 +1,8 @@
-// The source of a pixel (document 01, Pixels): what a visit draws, from the registers, the line pattern and the buffers as
-// they stand. Where the pixel lies is not known here, but for the cell of a blit.
+// The source of a pixel (document 01, Pixels): what a visit draws, from the registers, the line pattern, the tile of a fill and
+// the buffers as they stand. Where the pixel lies is not known here, but for the cell of a blit.
 ghost use mathlib.Core.Path.{_≡_};
 ghost use lib.ListN.{getD};
-ghost use Rattle.sources.specs.Sources.{byBit, copiedOf, stippledOf, readOf, dashOf, sourceOf};
+ghost use Rattle.sources.specs.Sources.{byBit, copiedOf, stippledOf, readOf, tiledOf, dashOf, sourceOf};
 use entries::Command;
 use geometry::Cell;
 use geometry::Extent;
@@ -12,8 +12,11 @@ use geometry::Point;
 use geometry::Visit;
 use geometry::cell_visit;
 use geometry::place_of;
+use numbers::saturating_sub;
 use registers::Pattern;
 use registers::Registers;
+use tiles::Fill;
+use tiles::pixel;
 
 // What is drawn at a pixel.
 pub enum Source {
@@ -99,6 +102,26 @@ fn read(c: Command, g: Registers, extent: Extent, cell: Cell, buffer: &[u8]) -> 
     copied(c, g, extent, cell, buffer)
 }
 
+// A cell of a blit that draws a tile, by the x and y of its pixel in the destination buffer.
+fn tiled(g: Registers, fill: Fill, cell: Cell) -> Source
+    ensures { λ r. ⌜ r ≡ tiledOf g fill cell ⌝ }
+{
+    let visit = cell_visit(g.xy1, g.xy3, cell);
+    let Visit::At(p) = visit else {
+        return Source::Nothing;
+    };
+    if !fill.whole {
+        return Source::Nothing;
+    }
+    let tile = fill.tile;
+    let value = pixel(
+        tile,
+        saturating_sub(p.x, ORIGIN),
+        saturating_sub(p.y, ORIGIN),
+    );
+    Source::Value(value as u32)
+}
+
 // A line's pixel without SOLID.
 fn dash(c: Command, g: Registers, p: Pattern) -> Source
     ensures { λ r. ⌜ r ≡ dashOf c g p ⌝ }
@@ -112,16 +135,20 @@ pub fn source_of(
     g: Registers,
     p: Pattern,
     extent: Extent,
+    fill: Fill,
     cell: Cell,
     display: &[u8],
     virt: &[u8],
 ) -> Source
-    ensures { λ r. ⌜ r ≡ sourceOf c g p extent cell (now (display .entry)) (now (virt .entry)) ⌝ }
+    ensures { λ r. ⌜ r ≡ sourceOf c g p extent fill cell (now (display .entry)) (now (virt .entry)) ⌝ }
 {
     if c.solid {
         return Source::Value(g.fore);
     }
     if c.is_blit() {
+        if c.apat {
+            return tiled(g, fill, cell);
+        }
         if c.from_virtual {
             return read(c, g, extent, cell, virt);
         }

@@ -42,7 +42,7 @@ abbrev pub queueOf : List ℕ → Board → List Item
 queueOf l b = itemsOf l (b .active) ++ itemsOf l (activeOn (b .pending))
 
 abbrev pub paperOf : World → Paper
-paperOf w = paper (scene (w .board .engine) (w .display) (w .virt)) (w .list) (queueOf (w .list) (w .board))
+paperOf w = paper (scene (w .board .engine) (w .board .fill) (w .display) (w .virt)) (w .list) (queueOf (w .list) (w .board))
 
 pub record Valid (w : World) : Type 0 where
   pub well : wellFormed (w .board) ≡ true
@@ -136,11 +136,11 @@ front l b t =
 
 -- a list with entries or pixels left stays in front
 list-stays : (b : Board) (l d v : List ℕ) → endedOf (b .active .cursor) (b .engine .«under_way») ≡ false
-    → leaving (scene (b .engine) d v) l (b .active .cursor .span) (restOf l (b .active .cursor)) (itemsOf l (activeOn (b .pending)))
-    ≡ paper (scene (b .engine) d v) l (posted (b .active .cursor .span) (restOf l (b .active .cursor)) ∷ itemsOf l (activeOn (b .pending)))
+    → leaving (scene (b .engine) (b .fill) d v) l (b .active .cursor .span) (restOf l (b .active .cursor)) (itemsOf l (activeOn (b .pending)))
+    ≡ paper (scene (b .engine) (b .fill) d v) l (posted (b .active .cursor .span) (restOf l (b .active .cursor)) ∷ itemsOf l (activeOn (b .pending)))
 list-stays b l d v h =
     let c = b .active .cursor in
-    let s = scene (b .engine) d v in
+    let s = scene (b .engine) (b .fill) d v in
     let q = itemsOf l (activeOn (b .pending)) in
     by-cases (b .engine .«under_way») (λ u. leave-pixels s l (c .span) q (restOf l c) u)
     (λ u.
@@ -148,16 +148,16 @@ list-stays b l d v h =
     (going-rest l c (subst (λ u. endedOf c u ≡ false) u h)))
 
 pub leaves : (b : Board) (l d v : List ℕ) → b .active .taken ≡ true
-    → leaving (scene (b .engine) d v) l (b .active .cursor .span) (restOf l (b .active .cursor)) (itemsOf l (activeOn (b .pending)))
-    ≡ paper (scene (settledOf b .engine) d v) l (queueOf l (settledOf b))
+    → leaving (scene (b .engine) (b .fill) d v) l (b .active .cursor .span) (restOf l (b .active .cursor)) (itemsOf l (activeOn (b .pending)))
+    ≡ paper (scene (settledOf b .engine) (settledOf b .fill) d v) l (queueOf l (settledOf b))
 unfolding settledOf
 leaves b l d v t =
     let c = b .active .cursor in
     let u = b .engine .«under_way» in
-    let s = scene (b .engine) d v in
+    let s = scene (b .engine) (b .fill) d v in
     let p = activeOn (b .pending) in
     let end = endedOf c u in
-    let K : Board → Paper = λ b. paper (scene (b .engine) d v) l (queueOf l b) in
+    let K : Board → Paper = λ b. paper (scene (b .engine) (b .fill) d v) l (queueOf l b) in
     by-cases end
     (λ h.
     leave-ended s l (c .span) (itemsOf l p) (restOf l c) (ended-rest l c u h) (ended-resting l c u h)
@@ -206,7 +206,7 @@ module _ (w : World) (v : Valid w) where
       ≡ paperOf (onto w (movedTo (machineOf w) c s))
   moved-paper c s t same =
       ap (λ span. leaving s l span (restOf l c) (itemsOf l (activeOn (b .pending)))) (sym same)
-      ∙ leaves (withSteps b c (s .engine)) l (s .display) (s .virt) t
+      ∙ leaves (withSteps b c (s .engine) (s .fill)) l (s .display) (s .virt) t
 
   visit-steps : nextOn (w .list) (w .board) ≡ Visit → stepOn extent (paperOf w) ≡ paperOf (onto w (actOf Visit (machineOf w)))
   unfolding g
@@ -256,14 +256,14 @@ module _ (w : World) (v : Valid w) where
       }
 
   moved-sizes : (c : Cursor) (s : Scene) → movedTo (machineOf w) c s .board .sizes ≡ w .board .sizes
-  moved-sizes c s = settled-sizes (withSteps b c (s .engine))
+  moved-sizes c s = settled-sizes (withSteps b c (s .engine) (s .fill))
 
   moved-valid : (x : Next) (c : Cursor) (s : Scene) → nextOn (w .list) (w .board) ≡ x → actOf x (machineOf w) ≡ movedTo (machineOf w) c s
       → AllLegal (restOf (w .list) c) → Valid (onto w (movedTo (machineOf w) c s))
   moved-valid x c s h acts legal =
       let next = restOf l (cursorOn (b .pending .span)) in
       step-valid (movedTo (machineOf w) c s) (sym acts ∙ step-is x h) (moved-sizes c s)
-      (subst AllLegal (sym (settled-to-come l (withSteps b c (s .engine))))
+      (subst AllLegal (sym (settled-to-come l (withSteps b c (s .engine) (s .fill))))
       (legal-join (restOf l c) next legal (legal-right (restOf l (b .active .cursor)) next (v .legal))))
 
   visit-valid : nextOn (w .list) (w .board) ≡ Visit → Valid (onto w (actOf Visit (machineOf w)))

@@ -9,7 +9,8 @@ pub mod Picturing
 pub mod Commutes
 pub mod Sequence
 pub mod Refusals
-pub mod Images
 pub mod Bytes
+pub mod Fills
+pub mod Images
 pub mod SolidLines
 pub mod Rows

@@ -37,12 +37,12 @@ repliedOf w r = record { report = r .report; after = world (r .board) (w .list) 
 
 -- a list goes into the pending slot or into the active one
 abbrev pendingBoard : Board → ℕ → ℕ → Board
-pendingBoard b start count = record { sizes = b .sizes; active = b .active; pending = slotWith (spanOf start count); engine = b .engine }
+pendingBoard b start count = record { sizes = b .sizes; active = b .active; pending = slotWith (spanOf start count); engine = b .engine; fill = b .fill }
 
 abbrev activeBoard : Board → ℕ → ℕ → Board
-activeBoard b start count = record { sizes = b .sizes; active = activeOn (slotWith (spanOf start count)); pending = b .pending; engine = b .engine }
+activeBoard b start count = record { sizes = b .sizes; active = activeOn (slotWith (spanOf start count)); pending = b .pending; engine = b .engine; fill = b .fill }
 
-by-slot : (P : Board → Type 0) (b : Board) (start count : ℕ) → (b .active .taken ≡ true → P (pendingBoard b start count))
+pub by-slot : (P : Board → Type 0) (b : Board) (start count : ℕ) → (b .active .taken ≡ true → P (pendingBoard b start count))
     → (b .active .taken ≡ false → P (activeBoard b start count)) → P (postedOf b start count)
 unfolding postedOf
 by-slot P b start count f g =
@@ -58,6 +58,7 @@ post-good b start count g some fits =
     record {
       sizes = g .sizes;
       engine = g .engine;
+      fill = g .fill;
       active = g .active;
       pending = ok;
       order = or-by (b .active .taken) (false && not (b .engine .«under_way»)) (λ f. sym f ∙ t);
@@ -66,6 +67,7 @@ post-good b start count g some fits =
     record {
       sizes = g .sizes;
       engine = g .engine;
+      fill = g .fill;
       active = subst (λ u. activeOk (activeOn slot) (b .sizes .entries) u ≡ true) (sym (at-rest b g t)) (begins slot (b .sizes .entries) ok);
       pending = g .pending;
       order = refl;
@@ -126,6 +128,7 @@ module _ (w : World) (v : Valid w) (start count : ℕ) where
       let b = w .board in
       let z = by-slot (λ c. c .sizes ≡ b .sizes) b start count (λ t. refl) (λ t. refl) in
       let same = by-slot (λ c. b .engine ≡ c .engine) b start count (λ t. refl) (λ t. refl) in
+      let held = by-slot (λ c. b .fill ≡ c .fill) b start count (λ t. refl) (λ t. refl) in
       let queue = posted-queue free in
       record {
         valid =
@@ -137,7 +140,7 @@ module _ (w : World) (v : Valid w) (start count : ℕ) where
               legal = posted-legal (list-legal (w .list) (spanOf start count) none);
             };
         sizes-same = z;
-        paper-same = λ i. paper (scene (same i) (w .display) (w .virt)) (w .list) (queue i);
+        paper-same = λ i. paper (scene (same i) (held i) (w .display) (w .virt)) (w .list) (queue i);
         one-by-feed = λ h. omega arith;
         no-nine = λ h. omega arith;
       }

@@ -8,6 +8,8 @@ use Rattle.entries.specs.Fields.{lengthOf}
 use Rattle.entries.specs.Legality.{dataLegal, cmdLegal, pctrlLegal}
 use Rattle.registers.specs.Registers.{registersLegal}
 use Rattle.registers.specs.Patterns.{inRange}
+use Rattle.lemmas.specs.Turns.{inTurn}
+use Rattle.tiles.specs.Tiles.{noFill}
 use Rattle.commands.specs.Steps.{scene, freshEngine}
 use Rattle.slots.specs.Slots.{sizesOk}
 use Rattle.board.specs.Calls.{freshBoard, sizes}
@@ -52,14 +54,14 @@ throughout extent (c ∷ calls) w p v a e =
     )
 
 fresh-good : (z : Sizes) → sizesOk z ≡ true → Good (freshBoard z)
-unfolding registersLegal dataLegal cmdLegal pctrlLegal lengthOf inRange
-fresh-good z h = record { sizes = h; engine = refl; active = refl; pending = refl; order = refl }
+unfolding registersLegal dataLegal cmdLegal pctrlLegal lengthOf inRange inTurn
+fresh-good z h = record { sizes = h; engine = refl; fill = refl; active = refl; pending = refl; order = refl }
 
 pub demand3 : Demand3
 unfolding entriesFrom
 demand3 width height entries ok list display virt list-long display-long virt-long calls =
     let z = sizes width height entries in
-    throughout (z .extent) calls (world (freshBoard z) list display virt) (paper (scene freshEngine display virt) list [])
+    throughout (z .extent) calls (world (freshBoard z) list display virt) (paper (scene freshEngine noFill display virt) list [])
     (record {
       well = well-of (freshBoard z) (fresh-good z ok);
       list-long = list-long;

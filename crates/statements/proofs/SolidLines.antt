@@ -10,7 +10,7 @@ use borrow.Author.Tests.{lt-ltb}
 use lib.Dec.{eqb, ltb}
 use lib.ListN.{getD}
 use Rattle.lemmas.specs.Turns.{inTurn}
-use Rattle.lemmas.proofs.Booleans.{and-right, both}
+use Rattle.lemmas.proofs.Booleans.{and-right, both, first-of}
 use Rattle.lemmas.proofs.Turns.{turn-agree}
 use Rattle.lemmas.proofs.Orders.{either-order, twice-undone}
 use Rattle.raster.specs.Raster.{newByte}
@@ -31,17 +31,22 @@ use Rattle.geometry.proofs.Ends.{steps-turned, same-from-b}
 use Rattle.entries.specs.Fields.{commandOf}
 use Rattle.entries.specs.declared.decoding.Entry.{Entry}
 use Rattle.registers.specs.Registers.{writtenOf}
-use Rattle.strokes.specs.Strokes.{plotted, pixelsOf}
+use Rattle.tiles.specs.Tiles.{noFill}
+use Rattle.tiles.specs.declared.Fill.{Fill}
+use Rattle.sources.specs.declared.Source.the-variants.{Value}
+use Rattle.sources.proofs.Reading.{source-solid}
+use Rattle.strokes.specs.Strokes.{plotted, pixelsOf, Dashed}
 use Rattle.strokes.proofs.Traced.{pixels-in-turn}
-use Rattle.commands.specs.Visits.{lineStart, shows, countOf}
-use Rattle.commands.specs.Steps.{Scene, visitsOf, withWord, enteredBy, takenOf}
+use Rattle.commands.specs.Hatching.{fillAfter}
+use Rattle.commands.specs.Visits.{commandIn, lineStart, shows, countOf, cellAt, targetOf, sourceAt}
+use Rattle.commands.specs.Steps.{Scene, scene, inked, visitsOf, withWord, enteredBy, takenOf}
 use Rattle.commands.specs.Wholes.{pixelsLeft, doneBy, doneOf}
 use Rattle.commands.specs.declared.Engine.{Engine}
 use Rattle.commands.proofs.Visiting.{visits-registers}
 use Rattle.commands.proofs.Counts.{take-done}
 use Rattle.commands.proofs.Lists.{done-parts, lists-end}
-use Rattle.leaps.specs.Leaps.{movedBy}
-use Rattle.leaps.proofs.Visiting.{sceneOn, visits-are}
+use Rattle.leaps.specs.Leaps.{movedTo, movedBy}
+use Rattle.leaps.proofs.Visiting.{sceneOn, Marked, visits-are}
 use Rattle.leaps.proofs.Strokes.{count-is, solidState, solid-strokes}
 use Rattle.board.specs.Steps.{Machine, sceneOf}
 use Rattle.board.proofs.Wholes.{posted-rest, posted-done}
@@ -131,6 +136,20 @@ toVirtual c = commandOf (c .cmd) .«to_virtual»
 abbrev drawnIf : Bool → (List ℕ → List ℕ) → List ℕ → List ℕ
 drawnIf t f l = cond t (f l) l
 
+-- a SOLID line draws the same whatever tile is held
+any-tile : (extent : Extent) (e : Engine) (tile : Fill) (to : Bool) (other : List ℕ) (t : ℕ → Dashed) → commandIn e .solid ≡ true
+    → Marked extent e noFill to other t → Marked extent e tile to other t
+any-tile extent e tile to other t solid marked =
+    record {
+      buffers = λ k few.
+          let f = movedTo e k (t k .pattern) in
+          let own = t k .buffer in
+          let value : (tile : Fill) → Value (e .registers .fore) ≡ sourceAt extent f tile (e .visited + k) (cond to other own) (cond to own other) =
+          λ tile. source-solid (commandIn f) (f .registers) (f .pattern) extent tile (cellAt extent f (e .visited + k)) (cond to other own) (cond to own other) solid in
+          ap (λ o. inked f o (targetOf extent f (e .visited + k)) own) (sym (value tile) ∙ value noFill) ∙ marked .buffers k few;
+      patterns = marked .patterns;
+    }
+
 module _ (extent : Extent) (a b : ℕ) (s : Scene) (line : SolidLine a b (s .engine)) where
   abbrev e : Engine
   e = s .engine
@@ -155,17 +174,18 @@ module _ (extent : Extent) (a b : ℕ) (s : Scene) (line : SolidLine a b (s .eng
       ∙ (λ i.
       inTurn (λ k. plotted (extent .width) (windowIn extent c) (penIn c) (linePoint (pointOf (line .start i)) (pointOf (line .end i)) (on k i))) n l)
 
-  visits-draw : (to : Bool) → toVirtual c ≡ to → (own other : List ℕ) → s ≡ sceneOn e to own other
-      → drawnOf extent s ≡ sceneOn (movedBy extent e (pixelCount a b) (e .pattern)) to (stroke extent c a b own) other
+  visits-draw : (to : Bool) → toVirtual c ≡ to → (own other : List ℕ) → s ≡ sceneOn (s .fill) e to own other
+      → drawnOf extent s ≡ sceneOn (s .fill) (movedBy extent e (pixelCount a b) (e .pattern)) to (stroke extent c a b own) other
   unfolding pixelsOf
   visits-draw to t own other q =
       let n = pixelCount a b in
       let some = below (e .visited) (stepsOf (pointOf a) (pointOf b)) (countOf extent e) (line .unvisited) all-pixels in
       let few = within (e .visited) n (countOf extent e) (line .unvisited) all-pixels in
       (λ i. visitsOf (left i) extent (q i))
-      ∙ visits-are extent e to other (solidState extent e (line .line) own) t (line .under-way) some refl
-      (solid-strokes extent e (line .line) (line .style .solid) to other own) n few
-      ∙ ap (λ l. sceneOn (movedBy extent e n (e .pattern)) to l other) (strokes own)
+      ∙ visits-are extent e (s .fill) to other (solidState extent e (line .line) own) t (line .under-way) some refl
+      (any-tile extent e (s .fill) to other (solidState extent e (line .line) own) (line .style .solid)
+      (solid-strokes extent e (line .line) (line .style .solid) to other own)) n few
+      ∙ ap (λ l. sceneOn (s .fill) (movedBy extent e n (e .pattern)) to l other) (strokes own)
     where
       below : (v n c : ℕ) → v ≡ 0 → c ≡ n + 1 → v < c
       below v n c p q = omega arith
@@ -178,9 +198,12 @@ module _ (extent : Extent) (a b : ℕ) (s : Scene) (line : SolidLine a b (s .eng
       (drawnOf extent s .display ≡ drawnIf (not to) (stroke extent c a b) (s .display))
       × (drawnOf extent s .virt ≡ drawnIf to (stroke extent c a b) (s .virt))
 
+  with-fill : s ≡ scene e (fillAfter e (s .fill)) (s .display) (s .virt)
+  with-fill = ap (λ f. scene e f (s .display) (s .virt)) (first-of (e .«under_way») (s .fill) noFill (line .under-way))
+
   draws-on : (to : Bool) → toVirtual c ≡ to → Draws to
-  draws-on true t = let r = visits-draw true t (s .virt) (s .display) refl in (ap (λ r. r .display) r, ap (λ r. r .virt) r)
-  draws-on false t = let r = visits-draw false t (s .display) (s .virt) refl in (ap (λ r. r .display) r, ap (λ r. r .virt) r)
+  draws-on true t = let r = visits-draw true t (s .virt) (s .display) with-fill in (ap (λ r. r .display) r, ap (λ r. r .virt) r)
+  draws-on false t = let r = visits-draw false t (s .display) (s .virt) with-fill in (ap (λ r. r .display) r, ap (λ r. r .virt) r)
 
   draws : Draws (toVirtual c)
   draws = draws-on (toVirtual c) refl

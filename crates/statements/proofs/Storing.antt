@@ -89,7 +89,7 @@ module _ (w : World) (v : Valid w) (first : ℕ) (bytes : List ℕ) where
                 };
             sizes-same = refl;
             paper-same =
-                ap₂ (λ es fs. paper (scene (b .engine) (w .display) (w .virt)) l (items (b .active) es ++ items (activeOn (b .pending)) fs))
+                ap₂ (λ es fs. paper (scene (b .engine) (b .fill) (w .display) (w .virt)) l (items (b .active) es ++ items (activeOn (b .pending)) fs))
                 active-stays pending-stays;
             one-by-feed = λ h. omega arith;
             no-nine = λ h. omega arith;

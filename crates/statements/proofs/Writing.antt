@@ -39,14 +39,14 @@ module _ (w : World) (v : Valid w) (number offset : ℕ) (bytes : List ℕ) wher
 
   -- the queue is empty and the write is done at once
   written-at-once : (s : Scene) → (w .board .active .taken || w .board .pending .taken) ≡ false
-      → writtenTo number offset bytes (scene (w .board .engine) (w .display) (w .virt)) ≡ s
-      → flushed (scene (w .board .engine) (w .display) (w .virt)) (w .list) (queueOf (w .list) (w .board) ++ (window number offset bytes ∷ []))
+      → writtenTo number offset bytes (scene (w .board .engine) (w .board .fill) (w .display) (w .virt)) ≡ s
+      → flushed (scene (w .board .engine) (w .board .fill) (w .display) (w .virt)) (w .list) (queueOf (w .list) (w .board) ++ (window number offset bytes ∷ []))
       ≡ paper s (w .list) (queueOf (w .list) (w .board))
   unfolding flushed
   written-at-once s u e =
       let b = w .board in
       let empty = idle-queue (w .list) b (good-of b (v .well)) (or-none-left (b .active .taken) (b .pending .taken) u) in
-      ap (λ q. flushed (scene (w .board .engine) (w .display) (w .virt)) (w .list) (q ++ (window number offset bytes ∷ []))) empty
+      ap (λ q. flushed (scene (w .board .engine) (w .board .fill) (w .display) (w .virt)) (w .list) (q ++ (window number offset bytes ∷ []))) empty
       ∙ ap (λ s. paper s (w .list) []) e ∙ ap (paper s (w .list)) (sym empty)
 
   -- by the tests that the call passes, whichever buffer is named
@@ -82,7 +82,7 @@ module _ (w : World) (v : Valid w) (number offset : ℕ) (bytes : List ℕ) wher
   -- a done write: buffers of the same lengths, as the paper board writes them
   write-puts : (d e : List ℕ) → length d ≡ length (w .display) → length e ≡ length (w .virt)
       → (w .board .active .taken || w .board .pending .taken) ≡ false
-      → writtenTo number offset bytes (scene (w .board .engine) (w .display) (w .virt)) ≡ scene (w .board .engine) d e
+      → writtenTo number offset bytes (scene (w .board .engine) (w .board .fill) (w .display) (w .virt)) ≡ scene (w .board .engine) (w .board .fill) d e
       → Kept w (write number offset bytes) (record { report = report 0 0 0; after = world (w .board) (w .list) d e })
   unfolding fed
   write-puts d e d-long e-long u same =
@@ -96,7 +96,7 @@ module _ (w : World) (v : Valid w) (number offset : ℕ) (bytes : List ℕ) wher
               legal = v .legal;
             };
         sizes-same = refl;
-        paper-same = written-at-once (scene (w .board .engine) d e) u same;
+        paper-same = written-at-once (scene (w .board .engine) (w .board .fill) d e) u same;
         one-by-feed = λ h. omega arith;
         no-nine = λ h. omega arith;
       }
@@ -107,8 +107,9 @@ module _ (w : World) (v : Valid w) (number offset : ℕ) (bytes : List ℕ) wher
   display-done t fits u =
       let d = putInto (w .display) offset bytes in
       let e = w .board .engine in
+      let f = w .board .fill in
       write-puts d (w .virt) (put-length (w .display) offset bytes (omega (arith, v .display-long))) refl u
-      (ap (λ t. cond t (scene e d (w .virt)) (scene e (w .display) (putInto (w .virt) offset bytes))) t)
+      (ap (λ t. cond t (scene e f d (w .virt)) (scene e f (w .display) (putInto (w .virt) offset bytes))) t)
 
   virtual-done : eqb number 0 ≡ false → offset + length bytes ≤ areaOf (w .board .sizes)
       → (w .board .active .taken || w .board .pending .taken) ≡ false
@@ -116,8 +117,9 @@ module _ (w : World) (v : Valid w) (number offset : ℕ) (bytes : List ℕ) wher
   virtual-done t fits u =
       let d = putInto (w .virt) offset bytes in
       let e = w .board .engine in
+      let f = w .board .fill in
       write-puts (w .display) d refl (put-length (w .virt) offset bytes (omega (arith, v .virt-long))) u
-      (ap (λ t. cond t (scene e (putInto (w .display) offset bytes) (w .virt)) (scene e (w .display) d)) t)
+      (ap (λ t. cond t (scene e f (putInto (w .display) offset bytes) (w .virt)) (scene e f (w .display) d)) t)
 
   pub write-kept : Kept w (write number offset bytes) (called (write number offset bytes) w)
   unfolding called

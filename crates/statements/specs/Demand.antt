@@ -5,6 +5,7 @@ use mathlib.Core.List.{List, [], _∷_}
 use Prim.Native.Nat.{ℕ, _*_, _<_, min}
 use lib.Dec.{eqb}
 use lib.ListN.{length}
+use Rattle.tiles.specs.Tiles.{noFill}
 use Rattle.commands.specs.Steps.{scene, freshEngine}
 use Rattle.board.specs.Record.{wellFormed}
 use Rattle.board.specs.Calls.{freshBoard, sizes}
@@ -94,4 +95,4 @@ Demand3 =
     (width height entries : ℕ) → sizesOk (sizes width height entries) ≡ true → (list display virt : List ℕ)
     → length list ≡ 5 * entries → length display ≡ width * height → length virt ≡ width * height → (calls : List Call)
     → let w = world (freshBoard (sizes width height entries)) list display virt in
-    Throughout (sizes width height entries .extent) calls w (answersTo calls w) (paper (scene freshEngine display virt) list [])
+    Throughout (sizes width height entries .extent) calls w (answersTo calls w) (paper (scene freshEngine noFill display virt) list [])

@@ -3,10 +3,11 @@
 use mathlib.Core.Path.{_≡_}
 use mathlib.Core.Bool.{cond}
 use mathlib.Core.List.{List, [], _∷_}
-use Prim.Native.Nat.{ℕ, _*_}
+use Prim.Native.Nat.{ℕ, _*_, _<_}
 use lib.Dec.{eqb}
-use lib.ListN.{length}
+use lib.ListN.{length, getD}
 use Rattle.answers.specs.Reports.{Report, report}
+use Rattle.tiles.specs.Tiles.{noFill}
 use Rattle.commands.specs.Steps.{scene, freshEngine}
 use Rattle.board.specs.Calls.{sizes}
 use Rattle.pramolyt.specs.Image.{boardOf}
@@ -67,11 +68,29 @@ returnsTo (c ∷ cs) k =
     let r = returned c k in
     record { report = r .report; after = worldIn (r .after) } ∷ returnsTo cs (r .after)
 
+-- What the types in C say of pixels, which are bytes: those of the buffers, and those that calls put into them.
+abbrev pub AllBytes : List ℕ → Type 0
+AllBytes l = (k : ℕ) → getD l k 0 < 256
+
+abbrev pub BytesIn : Call → Type 0
+BytesIn (post start count) = Unit {0}
+BytesIn (store first bytes) = Unit {0}
+BytesIn (write number offset bytes) = AllBytes bytes
+BytesIn (run budget) = Unit {0}
+BytesIn (feed f piece) = Unit {0}
+BytesIn (import number picture) = AllBytes picture
+BytesIn (export number output) = Unit {0}
+
+unfoldable pub BytesThroughout : List Call → Type 0
+BytesThroughout [] = Unit {0}
+BytesThroughout (c ∷ cs) = BytesIn c × BytesThroughout cs
+
 -- From `pramolyt_make` answered 0 on, any memories of the right sizes and any calls: after each call what `Demand3` says, of
 -- the record that the image's words are.
 abbrev pub Demand3InC : Type 0
 Demand3InC =
     (width height entries : ℕ) → makeImage width height entries .number ≡ 0 → (list display virt : List ℕ)
-    → length list ≡ 5 * entries → length display ≡ width * height → length virt ≡ width * height → (calls : List Call)
+    → length list ≡ 5 * entries → length display ≡ width * height → length virt ≡ width * height → AllBytes display → AllBytes virt
+    → (calls : List Call) → BytesThroughout calls
     → let k = caller (makeImage width height entries .words) list display virt in
-    Throughout (sizes width height entries .extent) calls (worldIn k) (returnsTo calls k) (paper (scene freshEngine display virt) list [])
+    Throughout (sizes width height entries .extent) calls (worldIn k) (returnsTo calls k) (paper (scene freshEngine noFill display virt) list [])

@@ -44,8 +44,8 @@ paper s l q = record { drawing = s; list = l; queue = q }
 -- "A window write .. in front, it is done at once without a step and leaves."
 abbrev pub writtenTo : ℕ → ℕ → List ℕ → Scene → Scene
 writtenTo number offset bytes s =
-    cond (eqb number 0) (scene (s .engine) (putInto (s .display) offset bytes) (s .virt))
-    (scene (s .engine) (s .display) (putInto (s .virt) offset bytes))
+    cond (eqb number 0) (scene (s .engine) (s .fill) (putInto (s .display) offset bytes) (s .virt))
+    (scene (s .engine) (s .fill) (s .display) (putInto (s .virt) offset bytes))
 
 unfoldable pub flushed : Scene → List ℕ → List Item → Paper
 flushed s l [] = paper s l []

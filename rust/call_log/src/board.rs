@@ -4,6 +4,7 @@ use std::fs::File;
 use std::io::{self, Write};
 use std::{env, mem};
 
+use pramolyt::list::ENTRY_BYTES;
 use pramolyt::{Answer, Board, Feed};
 
 use crate::call::{Call, Outcome};
@@ -108,7 +109,7 @@ impl LoggedBoard {
     /// The caller writes bytes over list memory from entry `first` on, which is no call of the library. Bytes past its end
     /// are dropped.
     pub fn overwrite(&mut self, list: &mut [u8], first: usize, bytes: &[u8]) {
-        let from = first.saturating_mul(5).min(list.len());
+        let from = first.saturating_mul(ENTRY_BYTES).min(list.len());
         let count = bytes.len().min(list.len() - from);
         list[from..from + count].copy_from_slice(&bytes[..count]);
         let bytes = bytes.into();

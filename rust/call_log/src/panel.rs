@@ -2,6 +2,7 @@
 
 use std::io;
 
+use pramolyt::list::ENTRY_BYTES;
 use pramolyt::{Answer, VIRTUAL, picture_max};
 
 use crate::board::{Log, LoggedBoard};
@@ -32,7 +33,7 @@ impl Panel {
     fn fit(&mut self) {
         let board = self.board.board();
         let pixels = board.width() * board.height();
-        let entries = 5 * board.entries();
+        let entries = ENTRY_BYTES * board.entries();
         let [display, virt] = &mut self.buffers;
         for (memory, size) in [(&mut self.list, entries), (display, pixels), (virt, pixels)] {
             if memory.len() != size {

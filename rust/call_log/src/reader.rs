@@ -319,15 +319,26 @@ mod tests {
         }
     }
 
-    fn calls() -> Vec<Call<'static>> {
-        let long: Vec<u8> = (0..=255).collect();
+    fn calls_of_numbers() -> [Call<'static>; 4] {
         let (width, height, entries) = (8, 4, usize::MAX);
-        vec![
+        [
             Call::Make {
                 width,
                 height,
                 entries,
             },
+            Call::Post { start: 0, count: 1 },
+            Call::Run { budget: u64::MAX },
+            Call::Export {
+                number: 0,
+                room: 43,
+            },
+        ]
+    }
+
+    fn calls_with_bytes() -> [Call<'static>; 6] {
+        let long: Vec<u8> = (0..=255).collect();
+        [
             Call::Store {
                 first: 3,
                 bytes: long.clone().into(),
@@ -344,22 +355,21 @@ mod tests {
                 feed: Feed::from_parts(7, [1, 2, 3, 4], 9),
                 piece: vec![0xFF].into(),
             },
-            Call::Post { start: 0, count: 1 },
-            Call::Run { budget: u64::MAX },
             Call::Write {
                 number: 1,
                 offset: 30,
                 bytes: long.clone().into(),
-            },
-            Call::Export {
-                number: 0,
-                room: 43,
             },
             Call::Import {
                 number: 2,
                 picture: long.into(),
             },
         ]
+    }
+
+    fn calls() -> Vec<Call<'static>> {
+        let numbers = calls_of_numbers().into_iter();
+        numbers.chain(calls_with_bytes()).collect()
     }
 
     #[test]

@@ -10,11 +10,12 @@ use compare::lists::{ENTRY, Size, list};
 use compare::random::Random;
 use pramolyt::{DISPLAY, Feed, VIRTUAL};
 
+/// A tile has room on it.
 const SIZE: Size = Size {
-    width: 9,
-    height: 7,
+    width: 17,
+    height: 9,
 };
-const ENTRIES: u64 = 12;
+const ENTRIES: u64 = 20;
 
 /// A log in memory, which the test can look at.
 #[derive(Clone, Default)]
@@ -79,17 +80,36 @@ fn call(random: &mut Random, panel: &mut Panel) -> Call<'static> {
         },
         6 => Call::Write {
             number: number(random, 3),
-            offset: number(random, 70),
+            offset: number(random, 160),
             bytes: bytes(random).into(),
         },
         7 => Call::Export {
             number: number(random, 3),
-            room: 60 + number(random, 30),
+            room: 150 + number(random, 30),
         },
         _ => Call::Import {
             number: number(random, 3),
             picture: panel.export(DISPLAY).unwrap_or_default().into(),
         },
+    }
+}
+
+/// A list stored and posted, long enough for a fill from a tile.
+fn list_calls(random: &mut Random) -> [Call<'static>; 2] {
+    let start = number(random, ENTRIES);
+    let count = random.below(10) as usize;
+    let store = Call::Store {
+        first: start,
+        bytes: list(random, SIZE, count).into(),
+    };
+    [store, Call::Post { start, count }]
+}
+
+/// Calls that belong together, or one.
+fn calls(random: &mut Random, panel: &mut Panel) -> Vec<Call<'static>> {
+    match random.below(4) {
+        0 => list_calls(random).into(),
+        _ => vec![call(random, panel)],
     }
 }
 
@@ -106,14 +126,17 @@ fn same(one: &Panel, other: &Panel) {
 fn a_log_played_again() {
     let mut random = Random::new(9);
     let mut answers = [0; 12];
+    let mut tiles = 0;
     for _ in 0..200 {
         let (log, again) = (Shared::default(), Shared::default());
         let mut panel = new_panel(&log);
         for _ in 0..60 {
-            let call = call(&mut random, &mut panel);
-            if let Some(outcome) = panel.play(&call) {
-                answers[outcome.number as usize] += 1;
+            for call in calls(&mut random, &mut panel) {
+                if let Some(outcome) = panel.play(&call) {
+                    answers[outcome.number as usize] += 1;
+                }
             }
+            tiles += usize::from(panel.board().holds_tile());
         }
         let mut other = new_panel(&again);
         let text = log.0.borrow().clone();
@@ -128,6 +151,7 @@ fn a_log_played_again() {
     for answer in [0, 1, 2, 3, 4, 5, 6, 7, 8, 9] {
         assert!(answers[answer] > 10, "answer {answer}: {answers:?}");
     }
+    assert!(tiles > 10, "a tile is held after {tiles} calls");
 }
 
 #[test]

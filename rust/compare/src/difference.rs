@@ -2,7 +2,8 @@
 
 use crate::lists::ENTRY;
 use crate::sides::{Engine, Reference, engine_feed};
-use reference::{NAMES, PaperBoard, Record, Report};
+use reference::record::word_name;
+use reference::{PaperBoard, Record, Report};
 
 /// What two sides answered.
 pub fn of_answers(engine: &Report, reference: &Report) -> Result<(), String> {
@@ -71,7 +72,7 @@ fn of_words(engine: &[u32], other: &[u32], from: usize, whose: &str) -> Result<(
         return Ok(());
     };
     let (ours, theirs) = (engine[at], other[at]);
-    let name = NAMES[from + at];
+    let name = word_name(from + at);
     Err(format!(
         "{name}: the engine has {ours:#X}, the {whose} {theirs:#X}"
     ))

@@ -20,4 +20,5 @@ pub mod sides;
 pub mod spoil;
 pub mod stipples;
 pub mod tally;
+pub mod tiles;
 pub mod visits;

@@ -14,7 +14,7 @@ pub const ENTRY: usize = 5;
 /// How often each register is written, by its number.
 const OFTEN: [u64; COUNT] = [8, 2, 2, 2, 2, 2, 3, 2, 2, 6, 5, 4, 12];
 
-/// The fill styles of blits, without STPL and with it.
+/// The fill styles of blits, without STPL, with it, and with APAT.
 const PLAIN: [&[u32]; 6] = [
     &[flag::SOLID],
     &[flag::SOLID, flag::TRNSP],
@@ -32,8 +32,10 @@ const STIPPLED: [&[u32]; 6] = [
     &[flag::SOLID, flag::STPL, flag::TRNSP],
 ];
 
+const TILED: [&[u32]; 1] = [&[flag::APAT]];
+
 /// Entries that are not legal, or only just.
-const DOUBTFUL: [(usize, u32); 26] = [
+const DOUBTFUL: [(usize, u32); 35] = [
     (CMD, 0x0100_0000),
     (CMD, 0x0000_8000),
     (CMD, 0x2300_0000),
@@ -48,6 +50,15 @@ const DOUBTFUL: [(usize, u32); 26] = [
     (CMD, 0x1324_0000),
     (CMD, 0x2381_0000),
     (CMD, 0x5390_0000),
+    (CMD, 0x0000_4000),
+    (CMD, 0x1300_4000),
+    (CMD, 0x1300_2000),
+    (CMD, 0x1340_4000),
+    (CMD, 0x1380_4000),
+    (CMD, 0x1320_4000),
+    (CMD, 0x1310_4000),
+    (CMD, 0x2380_4000),
+    (CMD, 0x5320_4000),
     (MASK, 255),
     (MASK, 256),
     (PCTRL, 0x2003),
@@ -80,6 +91,10 @@ impl Size {
             height: side(record.height),
         }
     }
+
+    fn has_room_for_a_tile(self) -> bool {
+        self.width >= 16 && self.height >= 8
+    }
 }
 
 /// The bytes of an entry.
@@ -102,7 +117,11 @@ pub fn list(random: &mut Random, size: Size, entries: usize) -> Vec<u8> {
         let blit = hidden_blit(random, size);
         put_anywhere(random, &mut bytes, &blit);
     }
-    if random.one_in(400) {
+    if random.one_in(if size.has_room_for_a_tile() { 3 } else { 12 }) {
+        let fill = tiled_fill(random, size);
+        put_anywhere(random, &mut bytes, &fill);
+    }
+    if random.one_in(100) {
         let line = crossing_line(random, size);
         put_anywhere(random, &mut bytes, &line);
     }
@@ -123,7 +142,7 @@ fn put_anywhere(random: &mut Random, list: &mut [u8], entries: &[u8]) {
 
 /// A line from far on the one side of the board, across it, to far on the other side.
 fn crossing_line(random: &mut Random, size: Size) -> Vec<u8> {
-    let far = |random: &mut Random| match random.below(4) {
+    let far = |random: &mut Random| match random.below(8) {
         0 => random.between(-32_768, 32_767),
         _ => random.pick(&[-32_768, 32_767]),
     };
@@ -171,19 +190,7 @@ fn hidden_blit(random: &mut Random, size: Size) -> Vec<u8> {
     let corner = |random: &mut Random| {
         let left = hidden_side(random, width, size.width);
         let top = hidden_side(random, height, size.height);
-        let x = if direction & 2 == 2 {
-            left + width - 1
-        } else {
-            left
-        };
-        (
-            x,
-            if direction & 1 == 1 {
-                top + height - 1
-            } else {
-                top
-            },
-        )
+        named_corner(direction, (left, top), (width, height))
     };
     let to = corner(random);
     let from = match random.below(3) {
@@ -209,6 +216,66 @@ fn hidden_blit(random: &mut Random, size: Size) -> Vec<u8> {
         (XY1, halves(to.0, to.1)),
         (XY2, extent(random, size)),
     ])
+}
+
+/// The corner of a rectangle that a direction begins at.
+fn named_corner(
+    direction: u32,
+    (left, top): (i64, i64),
+    (width, height): (i64, i64),
+) -> (i64, i64) {
+    let along = |bit, first, length| {
+        if direction & bit == bit {
+            first + length - 1
+        } else {
+            first
+        }
+    };
+    (along(2, left, width), along(1, top, height))
+}
+
+/// A fill with a tile. Every other one lies over the place of its tile, and in one buffer it then draws over the tile.
+fn tiled_fill(random: &mut Random, size: Size) -> Vec<u8> {
+    let flags = blit_flags(random, &TILED);
+    let tile = (
+        tile_side(random, 16, size.width),
+        tile_side(random, 8, size.height),
+    );
+    let (width, height) = (
+        random.between(1, size.width.min(40) + 2),
+        random.between(1, size.height.min(20) + 2),
+    );
+    let direction = random.below(4) as u32;
+    let to = if random.one_in(2) {
+        point(random, size)
+    } else {
+        let left = random.between(tile.0 - width + 1, tile.0 + 15);
+        let top = random.between(tile.1 - height + 1, tile.1 + 7);
+        let (x, y) = named_corner(direction, (left, top), (width, height));
+        halves(x, y)
+    };
+    entries(&[
+        (MASK, legal_data(random, size, MASK)),
+        (
+            CMD,
+            opcode::BITBLT << 28 | raster_code(random) << 24 | flags,
+        ),
+        (XY0, halves(tile.0, tile.1)),
+        (XY2, halves(width, height)),
+        (XY3, direction),
+        (XY1, to),
+    ])
+}
+
+/// Where a side of a tile begins: mostly so that it lies inside, where it fits, just outside, or anywhere.
+fn tile_side(random: &mut Random, length: i64, limit: i64) -> i64 {
+    let last = limit - length;
+    match random.weighted(&[12, 1, 1, 1]) {
+        0 => random.between(0, last.max(0)),
+        1 => -1,
+        2 => last + 1,
+        _ => coordinate(random, limit),
+    }
 }
 
 /// Width and height of a blit that is mostly larger than the board.
@@ -331,6 +398,7 @@ fn command(random: &mut Random) -> u32 {
     let code = raster_code(random);
     let flags = match opcode {
         opcode::NOOP => return 0,
+        opcode::BITBLT if random.one_in(8) => blit_flags(random, &TILED),
         opcode::BITBLT if random.one_in(3) => blit_flags(random, &STIPPLED),
         opcode::BITBLT => blit_flags(random, &PLAIN),
         _ => line_flags(random),
@@ -451,7 +519,7 @@ fn side(random: &mut Random, limit: i64) -> i64 {
 
 #[cfg(test)]
 mod tests {
-    use super::{ENTRY, Size, doubtful_entry, glyph, hidden_blit, legal_entry};
+    use super::{ENTRY, Size, doubtful_entry, glyph, hidden_blit, legal_entry, tiled_fill};
     use crate::random::Random;
     use reference::entries::entry_at;
 
@@ -470,9 +538,9 @@ mod tests {
     }
 
     #[test]
-    fn glyphs_and_hidden_blits_are_legal() {
+    fn glyphs_hidden_blits_and_tiled_fills_are_legal() {
         let mut random = Random::new(1);
-        for blit in [glyph, hidden_blit] {
+        for blit in [glyph, hidden_blit, tiled_fill] {
             for _ in 0..1_000 {
                 let blit = blit(&mut random, SIZE);
                 assert!((0..blit.len() / ENTRY).all(|place| entry_at(&blit, place).is_some()));

@@ -7,6 +7,7 @@ use crate::compared::Compared;
 use crate::headers::{self, KINDS};
 use crate::random::Random;
 use crate::sides::{engine_report, export_report};
+use crate::tiles::spoiled_kind;
 use pramolyt::Board;
 use reference::{Record, Report};
 use std::panic::{AssertUnwindSafe, catch_unwind};
@@ -51,6 +52,9 @@ pub struct Pictures {
     one_less: u64,
     /// Exports done while a slot is taken.
     busy: u64,
+    /// Calls with a tile in a record that is not malformed, and calls refused for their record's tile alone.
+    held: [u64; 2],
+    spoiled: [u64; 2],
     /// Imports to an idle board by kind and by whether they were done.
     kinds: [[u64; 2]; KINDS.len()],
     /// Bytes changed in an export's header, by place.
@@ -92,6 +96,8 @@ impl Compared for Pictures {
         self.exact += other.exact;
         self.one_less += other.one_less;
         self.busy += other.busy;
+        add(&mut self.held, &other.held);
+        add(&mut self.spoiled, &other.spoiled);
         add(self.kinds.as_flattened_mut(), other.kinds.as_flattened());
         add(&mut self.places, &other.places);
         self.back += other.back;
@@ -107,6 +113,10 @@ impl Compared for Pictures {
             let name = format!("{} of every size up to {SMALL} by {SMALL}", WAYS[way]);
             let all = self.sizes[way].iter().flatten().all(|&count| count > 0);
             checks.push((name, all));
+            let held = format!("{} with a tile held", WAYS[way]);
+            checks.push((held, self.held[way] > 0));
+            let spoiled = format!("{} is refused for the record's tile", WAYS[way]);
+            checks.push((spoiled, self.spoiled[way] > 0));
         }
         for (name, counts) in ["widths", "heights"].iter().zip(&self.digits) {
             let name = format!("exports with {name} of 1 to 4 digits");
@@ -148,12 +158,25 @@ impl Compared for Pictures {
             "outputs that fit exactly {}, one byte too short {}; exports while a slot is taken {}",
             self.exact, self.one_less, self.busy
         );
+        println!(
+            "exports and imports with a tile held {:?}, refused for the record's tile {:?}",
+            self.held, self.spoiled
+        );
         println!("exports by digits of width and height {:?}", self.digits);
         println!("imports to an idle board, done and refused with 11, each");
         for ((_, name, ..), counts) in KINDS.iter().zip(&self.kinds) {
             println!("  {name} {counts:?}");
         }
         println!("bytes changed in an export's header {:?}", self.places);
+    }
+}
+
+impl Pictures {
+    /// Counts the record of a call by its tile.
+    fn tile(&mut self, way: usize, record: &Record) {
+        let faults = record.faults();
+        self.held[way] += u64::from(faults.is_empty() && record.tile_whole == 1);
+        self.spoiled[way] += u64::from(spoiled_kind(record, &faults).is_some());
     }
 }
 
@@ -185,20 +208,36 @@ fn size(random: &mut Random) -> (u64, u64) {
     size
 }
 
-/// A board of this size: idle most often, with lists in its slots, or malformed.
+/// A board of this size: idle most often, with lists in its slots, with a tiled fill under way, or malformed.
 fn record(random: &mut Random, size: (u64, u64)) -> Record {
     let (_, mut record) = reference::make(size.0, size.1, 4);
     let list = [0; 20];
-    match random.weighted(&[12, 2, 1, 1]) {
+    match random.weighted(&[12, 2, 1, 1, 1, 1]) {
         1 => drop(reference::post(&mut record, &list, 1, 2)),
         2 => {
             reference::post(&mut record, &list, 0, 3);
             reference::post(&mut record, &list, 2, 2);
         }
         3 => record.under_way = 2,
+        4 => begin_fill(random, &mut record),
+        5 => {
+            begin_fill(random, &mut record);
+            record.tile_whole ^= 1;
+        }
         _ => {}
     }
     record
+}
+
+/// A tiled fill under way, its tile at the board's upper left corner, whole where it fits.
+fn begin_fill(random: &mut Random, record: &mut Record) {
+    reference::post(record, &[0; 20], 0, 2);
+    (record.next, record.under_way) = (1, 1);
+    (record.cmd, record.xy2) = (0x1300_4000, 0x0001_0001);
+    if record.state().tile_is_whole() {
+        record.tile_whole = 1;
+        record.tile = std::array::from_fn(|_| std::array::from_fn(|_| random.half() as u8));
+    }
 }
 
 /// The number of a buffer, or one that there is not.
@@ -254,6 +293,7 @@ fn compare_export(
     let exact = reference::pictures::picture(record.width, record.height, pixels).len();
     let report = theirs.0;
     counts.answers[0][report.number as usize] += 1;
+    counts.tile(0, &record);
     counts.one_less += u64::from(report.number == 4 && room + 1 == exact);
     if report.number == 0 {
         counts.exact += u64::from(room == exact);
@@ -293,6 +333,7 @@ fn compare_import(
     compare(&ours, &theirs, about)?;
     let answer = theirs.0.number;
     counts.answers[1][answer as usize] += 1;
+    counts.tile(1, &record);
     if answer == 0 || answer == 11 {
         counts.kinds[made.kind][usize::from(answer == 11)] += 1;
         if let Some(count) = made.changed.and_then(|at| counts.places.get_mut(at)) {

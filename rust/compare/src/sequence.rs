@@ -168,7 +168,7 @@ impl Sequence<'_> {
         let Reference {
             record, memories, ..
         } = &self.reference;
-        self.tally.call(call, &report, record, &memories.list);
+        self.tally.call(call, &report, record, memories);
         if report.number == 0 {
             self.done();
         }
@@ -223,7 +223,7 @@ fn fed_span(stored: Span, fed: bool, first: u64, count: u64) -> Span {
 /// Width, height and entries: mostly small, so that a call is cheap.
 fn sizes(random: &mut Random) -> (u64, u64, u64) {
     let most = match random.weighted(&[8_000, 2_000, 4_000, 50, 100, 100, 100, 1]) {
-        0 => (16, 16),
+        0 => (24, 16),
         1 => (64, 64),
         2 => (100, 12),
         3 => (300, 300),

@@ -3,8 +3,12 @@
 use crate::lists::{ENTRY, Size, doubtful_entry, legal_data, legal_entry, point};
 use crate::random::Random;
 use crate::sides::{Memories, Reference};
-use reference::Record;
 use reference::entries::{pattern_control, register};
+use reference::record::NAMES;
+use reference::{Record, WORDS};
+
+/// The word of the tile's flag, the last with a name of its own; the tile's bytes follow.
+const TILE_WHOLE: usize = NAMES.len() - 1;
 
 /// Changes one or two things.
 pub fn spoil(random: &mut Random, side: &mut Reference) {
@@ -24,7 +28,11 @@ fn spoil_record(random: &mut Random, record: &mut Record) {
         return;
     }
     let mut words = record.words();
-    let at = random.below(words.len() as u64) as usize;
+    let at = match random.weighted(&[10, 2, 1]) {
+        0 => random.below(TILE_WHOLE as u64) as usize,
+        1 => TILE_WHOLE,
+        _ => random.between(TILE_WHOLE as i64 + 1, WORDS as i64 - 1) as usize,
+    };
     words[at] = match random.below(5) {
         0 => words[at].wrapping_add(1),
         1 => words[at].wrapping_sub(1),
@@ -139,6 +147,11 @@ pub fn anywhere(random: &mut Random, fresh: Record) -> Record {
             of_blit,
         ];
         record.visited = visited[random.weighted(&[4, 4, 4, 4, 2, 1, 1, 1])] as u32;
+    }
+    let state = record.state();
+    if state.is_tiled() && state.tile_is_whole() {
+        record.tile_whole = 1;
+        record.tile = std::array::from_fn(|_| std::array::from_fn(|_| random.half() as u8));
     }
     record
 }

@@ -4,7 +4,9 @@ use crate::call::{ALLOWED, CALLS, Call};
 use crate::compared::Compared;
 use crate::lists::ENTRY;
 use crate::sequence::{self, KINDS, Kind};
+use crate::sides::Memories;
 use crate::stipples::{STIPPLES, Stipple, ignores_bits, reads_bits};
+use crate::tiles::{self, FILLS, Fill, ILLEGAL, SPOILED, is_tiled};
 use crate::visits::{self, CUT, ENDS, Hidden, NOTHING, VISITED};
 use reference::entries::{Command, flag, opcode};
 use reference::{Feed, Record, Report};
@@ -12,17 +14,22 @@ use reference::{Feed, Record, Report};
 /// A kind of command, by name.
 type Commands = (&'static str, fn(Command) -> bool);
 
-const COMMANDS: [Commands; 5] = [
+const COMMANDS: [Commands; 6] = [
     ("BITBLT", is_blit),
     ("stippled BITBLT", reads_bits),
     ("BITBLT with SOLID and STPL", ignores_bits),
+    ("tiled BITBLT", is_tiled),
     ("LINE", |command| command.opcode() == opcode::LINE),
     ("PLINE", |command| command.opcode() == opcode::PLINE),
 ];
 
-const BLITS: [Commands; 2] = [("blit", is_blit), ("stippled blit", reads_bits)];
+const BLITS: [Commands; 3] = [
+    ("blit", is_blit),
+    ("stippled blit", reads_bits),
+    ("tiled blit", is_tiled),
+];
 
-const FLAGS: [(&str, u32); 9] = [
+const FLAGS: [(&str, u32); 10] = [
     ("SOLID", flag::SOLID),
     ("TRNSP", flag::TRNSP),
     ("STPL", flag::STPL),
@@ -32,6 +39,7 @@ const FLAGS: [(&str, u32); 9] = [
     ("CLIP", flag::CLIP),
     ("source", flag::SOURCE),
     ("destination", flag::DESTINATION),
+    ("APAT", flag::APAT),
 ];
 
 /// The grounds of a bad feed record, each alone, in the order of [`Feed::faults`].
@@ -65,6 +73,16 @@ pub struct Tally {
     nothing: [u64; NOTHING.len()],
     /// Records with a partly hidden blit under way, by its visited pixels.
     visited: [u64; VISITED.len()],
+    /// Tiled fills left under way by a run, by what they do.
+    fills: [u64; FILLS.len()],
+    /// Runs whose last step triggered a tiled fill with nothing to show.
+    tiled_nothing: u64,
+    /// Calls with a tile in the record that they leave, which is not malformed.
+    tile_held: [u64; CALLS.len()],
+    /// Calls refused for their record's tile alone, by what is wrong with it and by kind; posts refused for APAT alone.
+    spoiled: [u64; SPOILED.len()],
+    spoiled_calls: [u64; CALLS.len()],
+    illegal: [u64; ILLEGAL.len()],
     /// Accepted feeds by the bytes held before and after.
     held: [[u64; 5]; 5],
     /// Accepted feeds at the end of list memory, which complete nothing.
@@ -81,22 +99,40 @@ impl Tally {
         self.sequences[kind as usize] += 1;
     }
 
-    /// Counts a call, with the record and the list memory that it left.
-    pub fn call(&mut self, call: &Call, report: &Report, record: &Record, list: &[u8]) {
+    /// Counts a call, with the record and the memories that it left.
+    pub fn call(&mut self, call: &Call, report: &Report, record: &Record, memories: &Memories) {
         self.answers[call.kind()][report.number as usize] += 1;
         self.steps += report.steps;
         self.longest = self.longest.max(report.steps);
         if report.steps > 0 && record.under_way == 1 {
-            self.cut(record);
+            self.cut(record, memories);
         }
         if record.under_way == 1 {
             for kind in visits::visited_kinds(record, &record.faults()) {
                 self.visited[kind] += 1;
             }
-        } else if report.steps > 0 {
-            if let Some(why) = visits::nothing_to_show(record, list) {
-                self.nothing[why] += 1;
+        } else if report.steps > 0
+            && let Some(why) = visits::nothing_to_show(record, &memories.list)
+        {
+            self.nothing[why] += 1;
+            self.tiled_nothing += u64::from(is_tiled(record.state().command()));
+        }
+        if record.tile_whole == 1 && !record.malformed() {
+            self.tile_held[call.kind()] += 1;
+        }
+        match report.number {
+            1 => {
+                if let Some(kind) = tiles::spoiled_kind(record, &record.faults()) {
+                    self.spoiled[kind] += 1;
+                    self.spoiled_calls[call.kind()] += 1;
+                }
             }
+            6 => {
+                if let Some(kind) = tiles::illegal_kind(&memories.list, report.place) {
+                    self.illegal[kind] += 1;
+                }
+            }
+            _ => {}
         }
         if let Call::Feed { feed, piece } = call {
             self.feed(feed, piece, report, record);
@@ -122,7 +158,7 @@ impl Tally {
         }
     }
 
-    fn cut(&mut self, record: &Record) {
+    fn cut(&mut self, record: &Record, memories: &Memories) {
         let command = record.state().command();
         for (counts, (_, is)) in self.codes.iter_mut().zip(COMMANDS) {
             counts[command.raster_code() as usize] += u64::from(is(command));
@@ -144,6 +180,11 @@ impl Tally {
             }
             for (counts, (_, does)) in self.ends.iter_mut().zip(ENDS) {
                 counts[record.xy3 as usize] += u64::from(does(&blit));
+            }
+        }
+        if let Some(fill) = Fill::under_way(record, memories) {
+            for (count, (_, does)) in self.fills.iter_mut().zip(FILLS) {
+                *count += u64::from(does(&fill));
             }
         }
     }
@@ -181,6 +222,12 @@ impl Compared for Tally {
         add(self.ends.as_flattened_mut(), other.ends.as_flattened());
         add(&mut self.nothing, &other.nothing);
         add(&mut self.visited, &other.visited);
+        add(&mut self.fills, &other.fills);
+        self.tiled_nothing += other.tiled_nothing;
+        add(&mut self.tile_held, &other.tile_held);
+        add(&mut self.spoiled, &other.spoiled);
+        add(&mut self.spoiled_calls, &other.spoiled_calls);
+        add(&mut self.illegal, &other.illegal);
         add(self.held.as_flattened_mut(), other.held.as_flattened());
         self.at_the_end += other.at_the_end;
         add(&mut self.bad_feeds, &other.bad_feeds);
@@ -232,6 +279,25 @@ impl Compared for Tally {
         }
         for (name, &count) in VISITED.iter().zip(&self.visited) {
             checks.push((format!("visited pixels of a hidden blit {name}"), count > 0));
+        }
+        for (&count, (name, _)) in self.fills.iter().zip(FILLS) {
+            checks.push((format!("a tiled fill that {name} is cut"), count > 0));
+        }
+        let tiled_nothing = "a tiled fill with nothing to show".to_string();
+        checks.push((tiled_nothing, self.tiled_nothing > 0));
+        for (name, &count) in SPOILED.iter().zip(&self.spoiled) {
+            checks.push((format!("a record is refused, {name}"), count > 0));
+        }
+        for (call, name) in CALLS.iter().enumerate() {
+            if ALLOWED[call].contains(&1) {
+                let held = format!("{name} with a tile held");
+                checks.push((held, self.tile_held[call] > 0));
+                let spoiled = format!("{name} is refused for the record's tile");
+                checks.push((spoiled, self.spoiled_calls[call] > 0));
+            }
+        }
+        for (name, &count) in ILLEGAL.iter().zip(&self.illegal) {
+            checks.push((format!("APAT with {name} is refused"), count > 0));
         }
         for (held, counts) in self.held.iter().enumerate() {
             let name = format!("feeds with {held} held bytes leave 0 to 4");
@@ -287,6 +353,22 @@ impl Compared for Tally {
         }
         println!("blits with nothing to show {:?}", self.nothing);
         println!("partly hidden blits by visited pixels {:?}", self.visited);
+        println!("tiled fills that a budget cut, each");
+        for (count, (name, _)) in self.fills.iter().zip(FILLS) {
+            println!("  {name} {count}");
+        }
+        println!("tiled fills with nothing to show {}", self.tiled_nothing);
+        println!("  calls with a tile held {:?}", self.tile_held);
+        for (name, count) in SPOILED.iter().zip(self.spoiled) {
+            println!("  refused, {name} {count}");
+        }
+        println!(
+            "  calls refused for the record's tile {:?}",
+            self.spoiled_calls
+        );
+        for (name, count) in ILLEGAL.iter().zip(self.illegal) {
+            println!("  refused, APAT with {name} {count}");
+        }
         println!("feeds by held bytes before and after {:?}", self.held);
         println!("  at the end of list memory {}", self.at_the_end);
         for (name, count) in BAD_FEEDS.iter().zip(self.bad_feeds) {

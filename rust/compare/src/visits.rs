@@ -154,7 +154,8 @@ impl Hidden {
     /// Of a copy of bytes: the pixel that it reads next lies outside.
     fn reads_outside(&self) -> bool {
         let source = self.state.blit_pixel(register::XY0, self.state.visited);
-        !self.has(flag::SOLID) && !self.has(flag::STPL) && !self.is_inside(source)
+        let others = [flag::SOLID, flag::STPL, flag::APAT];
+        !others.iter().any(|&flag| self.has(flag)) && !self.is_inside(source)
     }
 
     fn is_inside(&self, p: Point) -> bool {

@@ -4,10 +4,10 @@
 use crate::Board;
 
 unsafe extern "C" {
-    #[link_name = "pramolyt_make_r1"]
+    #[link_name = "pramolyt_make_r2"]
     pub fn pramolyt_make(board: *mut Board, width: usize, height: usize, entries: usize) -> u32;
 
-    #[link_name = "pramolyt_post_r1"]
+    #[link_name = "pramolyt_post_r2"]
     pub fn pramolyt_post(
         board: *mut Board,
         place: *mut u64,
@@ -17,7 +17,7 @@ unsafe extern "C" {
         count: usize,
     ) -> u32;
 
-    #[link_name = "pramolyt_store_r1"]
+    #[link_name = "pramolyt_store_r2"]
     pub fn pramolyt_store(
         board: *mut Board,
         list: *mut u8,
@@ -27,10 +27,10 @@ unsafe extern "C" {
         bytes_len: usize,
     ) -> u32;
 
-    #[link_name = "pramolyt_feed_start_fields_r1"]
+    #[link_name = "pramolyt_feed_start_fields_r2"]
     pub fn pramolyt_feed_start_fields(next: *mut u64, held: *mut u8, count: *mut u32, entry: u64);
 
-    #[link_name = "pramolyt_feed_fields_r1"]
+    #[link_name = "pramolyt_feed_fields_r2"]
     pub fn pramolyt_feed_fields(
         board: *mut Board,
         next: *mut u64,
@@ -42,7 +42,7 @@ unsafe extern "C" {
         piece_len: usize,
     ) -> u32;
 
-    #[link_name = "pramolyt_window_write_r1"]
+    #[link_name = "pramolyt_window_write_r2"]
     pub fn pramolyt_window_write(
         board: *mut Board,
         number: usize,
@@ -53,7 +53,7 @@ unsafe extern "C" {
         buffer_len: usize,
     ) -> u32;
 
-    #[link_name = "pramolyt_export_r1"]
+    #[link_name = "pramolyt_export_r2"]
     pub fn pramolyt_export(
         board: *mut Board,
         written: *mut u64,
@@ -64,7 +64,7 @@ unsafe extern "C" {
         output_len: usize,
     ) -> u32;
 
-    #[link_name = "pramolyt_import_r1"]
+    #[link_name = "pramolyt_import_r2"]
     pub fn pramolyt_import(
         board: *mut Board,
         number: usize,
@@ -74,7 +74,7 @@ unsafe extern "C" {
         buffer_len: usize,
     ) -> u32;
 
-    #[link_name = "pramolyt_run_r1"]
+    #[link_name = "pramolyt_run_r2"]
     pub fn pramolyt_run(
         board: *mut Board,
         steps: *mut u64,
@@ -87,7 +87,7 @@ unsafe extern "C" {
         virt_len: usize,
     ) -> u32;
 
-    #[link_name = "pramolyt_pack_r1"]
+    #[link_name = "pramolyt_pack_r2"]
     pub fn pramolyt_pack(
         written: *mut u64,
         place: *mut u64,
@@ -97,7 +97,7 @@ unsafe extern "C" {
         output_len: usize,
     ) -> u32;
 
-    #[link_name = "pramolyt_unpack_r1"]
+    #[link_name = "pramolyt_unpack_r2"]
     pub fn pramolyt_unpack(
         written: *mut u64,
         place: *mut u64,

@@ -58,7 +58,7 @@ pub const DISPLAY: usize = 0;
 pub const VIRTUAL: usize = 1;
 
 /// The words of a board record.
-pub const WORDS: usize = 28;
+pub const WORDS: usize = 61;
 
 /// A board: its sizes, the lists posted to it, the command under way, the registers.
 ///
@@ -113,6 +113,12 @@ impl Board {
     /// The active list's next entry, counted over the whole list memory; after [`Answer::IllegalFetch`] the illegal one.
     pub fn next_entry(&self) -> usize {
         self.words[9] as usize
+    }
+
+    /// Whether the record holds a tile: that of a fill with [`Flags::APAT`](list::Flags::APAT) under way, unless it lies
+    /// partly outside its source buffer.
+    pub fn holds_tile(&self) -> bool {
+        self.words[28] != 0
     }
 
     /// Posts the list of `count` entries from entry `start` on. Two lists can wait at a time. The answer is
@@ -212,7 +218,8 @@ impl Board {
     }
 
     /// Draws the posted lists for at most `budget` steps; a step is an entry fetched or a pixel visited. A blit visits only
-    /// pixels inside the buffer and its clip, a line hidden ones too. The answer is [`Answer::WrongSize`] where `list` has not 5 bytes an entry of the board, or a buffer not a byte for each pixel.
+    /// pixels inside the buffer and its clip, a line hidden ones too. The answer is [`Answer::WrongSize`] where `list` has not
+    /// 5 bytes an entry of the board, or a buffer not a byte for each pixel.
     ///
     /// [`Answer::IllegalFetch`] means that list memory or the record is not as the last call left it. The list stays
     /// posted, and a further run stops there again. To go on, write a legal entry over that one, [`Board::next_entry`],

@@ -55,7 +55,7 @@ pub enum Register {
     Clptl = 7,
     /// The lower right corner of the clip, a [`point`].
     Clpbr = 8,
-    /// The start of a line or the source corner of a blit, a [`point`].
+    /// The start of a line, the source corner of a blit or the upper left corner of its tile, a [`point`].
     Xy0 = 9,
     /// Width and height of a blit, a [`size`].
     Xy2 = 10,
@@ -204,6 +204,8 @@ impl Flags {
     pub const SOURCE_VIRTUAL: Flags = Flags(1 << 16);
     /// Draws into the virtual buffer, else display.
     pub const DESTINATION_VIRTUAL: Flags = Flags(1 << 15);
+    /// A blit from a tile of 16 by 8 pixels, XY0 being its upper left corner.
+    pub const APAT: Flags = Flags(1 << 14);
 
     /// The flags as bits of CMD.
     pub const fn bits(self) -> u32 {

@@ -164,6 +164,32 @@ fn a_list_changed_since_its_post_stops_the_run_until_it_is_mended() {
 }
 
 #[test]
+fn a_tile_is_held_while_its_fill_is_under_way() {
+    let (answer, mut board) = Board::make(16, 8, 3);
+    assert_eq!(answer, DONE);
+    // CMD a BITBLT with APAT from the virtual buffer, raster code copy; XY2 16 by 8; XY1 (0, 0).
+    let list = [0, 0x13, 1, 0x40, 0, 0x50, 0, 16, 0, 8, 0x60, 0, 0, 0, 0];
+    let (mut display, mut virt) = ([0; 128], [5; 128]);
+    assert_eq!(board.post(&list, 0, 3), DONE);
+    // While the record holds the tile, the tile's place in the buffer has other pixels.
+    let mut run = |board: &mut Board, budget| {
+        let steps = board.run(budget, &list, &mut display, &mut virt).steps();
+        virt.fill(if board.holds_tile() { 6 } else { 5 });
+        (steps, board.holds_tile())
+    };
+    assert_eq!(run(&mut board, 2), (2, false));
+    assert_eq!(run(&mut board, 1), (1, true));
+    assert_eq!(run(&mut board, 127), (127, true));
+    assert_eq!(
+        board.words()[28..],
+        [[1].as_slice(), &[0x0505_0505; 32]].concat()
+    );
+    assert_eq!(run(&mut board, 2), (1, false));
+    assert_eq!(board.words()[28..], [0; 33]);
+    assert_eq!(display, [5; 128]);
+}
+
+#[test]
 fn answers_are_told_in_words() {
     assert_eq!(Answer::Done { steps: 9 }.to_string(), "done, 9 steps");
     assert_eq!(

@@ -25,7 +25,7 @@ const DIRECTIONS: [Direction; 4] = [
     Direction::UpperRight,
     Direction::LowerRight,
 ];
-const FLAGS: [(&str, Flags); 9] = [
+const FLAGS: [(&str, Flags); 10] = [
     ("SOLID", Flags::SOLID),
     ("TRNSP", Flags::TRNSP),
     ("STPL", Flags::STPL),
@@ -35,6 +35,7 @@ const FLAGS: [(&str, Flags); 9] = [
     ("CLIP", Flags::CLIP),
     ("SOURCE", Flags::SOURCE_VIRTUAL),
     ("DESTINATION", Flags::DESTINATION_VIRTUAL),
+    ("APAT", Flags::APAT),
 ];
 
 /// A board, its memories, and the list that is being built at the front of list memory.
@@ -751,7 +752,9 @@ fn the_page_has_the_opcodes() {
 fn allows(row: &[String], opcode: u32, flags: u32) -> bool {
     let named = OPCODES.into_iter().find(|&known| known as u32 == opcode);
     let named = named.map(|opcode| format!("{opcode:?}").to_uppercase());
-    let columns = ["SOLID", "STPL", "TRNSP", "KEY", "NLST", "PRST", "SOURCE"];
+    let columns = [
+        "SOLID", "STPL", "TRNSP", "KEY", "NLST", "PRST", "SOURCE", "APAT",
+    ];
     let fits = |(cell, name): (&String, &str)| {
         let flag = FLAGS.iter().find(|flag| flag.0 == name).expect("a flag").1;
         let set = flags & flag.bits() != 0;
@@ -760,17 +763,17 @@ fn allows(row: &[String], opcode: u32, flags: u32) -> bool {
     row[0]
         .split(", ")
         .any(|name| Some(name) == named.as_deref())
-        && row[1..8].iter().zip(columns).all(fits)
+        && row[1..9].iter().zip(columns).all(fits)
 }
 
 #[test]
 fn the_page_has_the_legal_styles() {
     let rows = table("## CMD", "command");
-    let head = "| command | SOLID | STPL | TRNSP | KEY | NLST | PRST | SOURCE |";
+    let head = "| command | SOLID | STPL | TRNSP | KEY | NLST | PRST | SOURCE | APAT |";
     assert!(section("## CMD").contains(head));
-    for high in 0..1 << 17 {
-        let word = high << 15;
-        let (opcode, flags) = (word >> 28, word & 0x00FF_8000);
+    for high in 0..1 << 18 {
+        let word = high << 14;
+        let (opcode, flags) = (word >> 28, word & 0x00FF_C000);
         let legal = word == 0 || rows.iter().any(|row| allows(row, opcode, flags));
         let expected = if legal { DONE } else { ILLEGAL };
         assert_eq!(posted(Register::Cmd, word), expected, "CMD {word:08X}");
@@ -1129,6 +1132,51 @@ fn the_page_draws_the_bits_of_a_row() {
         assert_eq!((x.0, x.1 as usize), (bit.0, k));
         let byte = usize::from(x.0 >= second);
         assert!(bit_is_read(x.1 as i16, byte, bit.1), "bit {}", x.1);
+    }
+}
+
+/// A blit of 18 by 8 at (3, 2) from a tile at (x, y) of the virtual buffer, on a board of 24 by 11: the pixels visited and the
+/// rows. Outside the tile the virtual buffer has 7s.
+fn tiled(tile: &str, x: i16, y: i16) -> (usize, Vec<String>) {
+    let mut panel = Panel::of_size(24, 11);
+    panel.virt.fill(7);
+    for (row, line) in tile.lines().enumerate() {
+        let pixel = |letter: char| letter.to_digit(10).unwrap_or(0) as u8;
+        let pixels: Vec<u8> = line.chars().map(pixel).collect();
+        let at = 24 * (y as usize + row) + x as usize;
+        panel.virt[at..at + pixels.len()].copy_from_slice(&pixels);
+    }
+    panel.put(Register::Xy0, point(x, y));
+    panel.blit(
+        Flags::APAT | Flags::SOURCE_VIRTUAL,
+        size(18, 8),
+        point(3, 2),
+    );
+    (panel.draw(), panel.rows())
+}
+
+#[test]
+fn the_page_draws_a_tile() {
+    let text = section("### Tiles");
+    let blocks = blocks("### Tiles");
+    let [tile, picture] = &blocks[..] else {
+        panic!("not two blocks");
+    };
+    assert!(tile.lines().count() == 8 && tile.lines().all(|line| line.len() == 16));
+    assert!(text.contains("A blit of 18 by 8 at (3, 2) on a board of 24 by 11"));
+    for (x, y) in [(0, 0), (5, 1), (8, 3)] {
+        let (visited, rows) = tiled(tile, x, y);
+        assert_eq!(visited, 18 * 8);
+        assert_eq!(rows, picture.lines().collect::<Vec<&str>>(), "{x}, {y}");
+    }
+}
+
+#[test]
+fn a_tile_not_wholly_inside_draws_nothing() {
+    for (x, y) in [(9, 0), (0, 4)] {
+        let (visited, rows) = tiled("", x, y);
+        assert_eq!(visited, 18 * 8);
+        assert!(rows.iter().all(|row| row == &".".repeat(24)));
     }
 }
 

@@ -5,7 +5,7 @@ use std::fs;
 use std::path::{Path, PathBuf};
 
 const WIDTH: usize = 80;
-const HEIGHT: usize = 5;
+const HEIGHT: usize = 8;
 const PIXELS: usize = WIDTH * HEIGHT;
 
 const CMD: u8 = 0;
@@ -20,12 +20,14 @@ const LINE: u32 = 2 << 28;
 const SOLID: u32 = 1 << 23;
 const STPL: u32 = 1 << 21;
 const FROM_VIRTUAL: u32 = 1 << 16;
+const APAT: u32 = 1 << 14;
 
 /// The ways of drawing: CMD without its code, and XY1. Each begins at (0, 0); a line ends at XY1.
-const WAYS: [(&str, u32, u32); 6] = [
+const WAYS: [(&str, u32, u32); 7] = [
     ("fill", BITBLT | SOLID, 0),
     ("copy", BITBLT | FROM_VIRTUAL, 0),
     ("stipple", BITBLT | STPL | FROM_VIRTUAL, 0),
+    ("tile", BITBLT | APAT | FROM_VIRTUAL, 0),
     ("line", LINE | SOLID, 79 << 16 | 4),
     ("level line", LINE | SOLID, 79 << 16),
     ("dashed line", LINE | STPL, 79 << 16 | 4),

@@ -65,7 +65,7 @@ pub struct Buffers<'a> {
 
 impl Buffers<'_> {
     /// "pixel (x, y) at y x width + x"; none outside the buffer.
-    fn index(&self, p: Point) -> Option<usize> {
+    pub(crate) fn index(&self, p: Point) -> Option<usize> {
         let (width, height) = (i64::from(self.width), i64::from(self.height));
         let inside = 0 <= p.x && p.x < width && 0 <= p.y && p.y < height;
         inside.then(|| (p.y * width + p.x) as usize)
@@ -146,11 +146,15 @@ impl State {
 
     /// "Source is FORE with SOLID, else the source buffer's pixel; a source pixel
     /// outside its buffer, or equal to KEY with KEY set, draws nothing." Of STPL:
-    /// "With SOLID the source is FORE everywhere and no bit is read" (document 02, R-2).
+    /// "With SOLID the source is FORE everywhere and no bit is read" (document 02, R-2). With
+    /// APAT it is the tile's (document 02, R-7).
     pub fn blit_source(&self, i: u32, buffers: &Buffers) -> Option<u8> {
         let command = self.command();
         if command.has(flag::SOLID) {
             return Some(self.byte(register::FORE));
+        }
+        if command.has(flag::APAT) {
+            return self.tile_source(self.blit_pixel(register::XY1, i));
         }
         let from = self.blit_pixel(register::XY0, i);
         if command.has(flag::STPL) {

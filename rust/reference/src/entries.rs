@@ -30,7 +30,8 @@ pub mod opcode {
 }
 
 /// "SOLID 23, TRNSP 22, STPL 21, KEY 20, NLST 19, PRST 18, CLIP 17, source 16,
-/// destination 15 (0 display, 1 virtual)": the bits of CMD, each by its number.
+/// destination 15 (0 display, 1 virtual)", and "CMD bit 14, APAT" (document 02, R-7): the
+/// bits of CMD, each by its number.
 pub mod flag {
     pub const SOLID: u32 = 23;
     pub const TRNSP: u32 = 22;
@@ -41,6 +42,7 @@ pub mod flag {
     pub const CLIP: u32 = 17;
     pub const SOURCE: u32 = 16;
     pub const DESTINATION: u32 = 15;
+    pub const APAT: u32 = 14;
 }
 
 /// "a list memory of 5 bytes an entry".
@@ -104,10 +106,12 @@ impl Command {
 /// "NOOP: all else zero. Other opcodes are illegal. BITBLT: STPL, NLST, PRST zero;
 /// TRNSP only with SOLID; KEY only without. LINE, PLINE: KEY and source zero; SOLID
 /// or STPL set." Then "BITBLT with STPL becomes legal"; "6 stays for KEY with STPL
-/// and for TRNSP with neither STPL nor SOLID" (document 02, R-2).
+/// and for TRNSP with neither STPL nor SOLID" (document 02, R-2). APAT "is legal for a
+/// BITBLT with SOLID, STPL and KEY zero"; "6 for APAT with any other command or style"
+/// (document 02, R-7).
 fn legal_command(command: Command) -> bool {
     let has = |flag| command.has(flag);
-    let rest_zero = command.0 & 0x7FFF == 0;
+    let rest_zero = command.0 & 0x3FFF == 0;
     match command.opcode() {
         opcode::NOOP => command.0 == 0,
         opcode::BITBLT => {
@@ -116,10 +120,11 @@ fn legal_command(command: Command) -> bool {
                 && (has(flag::SOLID) || has(flag::STPL) || !has(flag::TRNSP))
                 && !(has(flag::SOLID) && has(flag::KEY))
                 && !(has(flag::STPL) && has(flag::KEY))
+                && !(has(flag::APAT) && (has(flag::SOLID) || has(flag::STPL) || has(flag::KEY)))
         }
         opcode::LINE | opcode::PLINE => {
             rest_zero
-                && !(has(flag::KEY) || has(flag::SOURCE))
+                && !(has(flag::KEY) || has(flag::SOURCE) || has(flag::APAT))
                 && (has(flag::SOLID) || has(flag::STPL))
         }
         _ => false,

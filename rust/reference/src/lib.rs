@@ -19,11 +19,12 @@ pub mod record;
 pub mod sequence;
 pub mod state;
 pub mod text;
+pub mod tiles;
 
 pub use calls::{make, post, run, store, window_write, Report};
 pub use feeds::{feed, Feed};
 pub use packing::{pack, unpack, Conversion};
 pub use paper::PaperBoard;
 pub use pictures::{export, import};
-pub use record::{Record, NAMES};
+pub use record::{Record, NAMES, WORDS};
 pub use sequence::Sequence;

@@ -2,13 +2,15 @@
 
 use crate::entries::{legal, pattern_control, register, LONGEST_SIDE, MOST_ENTRIES};
 use crate::state::State;
+use crate::tiles::{Tile, COLUMNS};
 
 /// "The board record has the three sizes, an active slot, a pending slot, the next
 /// entry, whether a command is under way, the visited pixels of that command, the
-/// registers, the pattern state and the last point".
+/// registers, the pattern state and the last point". It also "holds whether the tile was
+/// whole, and if so the tile" (document 02, R-7).
 ///
-/// The fields ending in `taken` and `under_way` are flags, 0 or 1. `last` is the
-/// last point as XY1's word: x in the high half, y in the low half, each two's
+/// The fields ending in `taken`, `under_way` and `tile_whole` are flags, 0 or 1. `last` is
+/// the last point as XY1's word: x in the high half, y in the low half, each two's
 /// complement.
 #[derive(Clone, Copy, PartialEq, Eq, Debug)]
 pub struct Record {
@@ -40,10 +42,17 @@ pub struct Record {
     pub pattern_place: u32,
     pub pattern_repeat: u32,
     pub last: u32,
+    pub tile_whole: u32,
+    pub tile: Tile,
 }
 
-/// The names of the record's fields, in the order of its words.
-pub const NAMES: [&str; 28] = [
+/// The words of a record: a field each, and then the tile, four bytes a word, the first
+/// byte lowest.
+pub const WORDS: usize = FIELDS + 32;
+const FIELDS: usize = NAMES.len();
+
+/// The names of the record's fields but the tile, in the order of its words.
+pub const NAMES: [&str; 29] = [
     "width",
     "height",
     "entries",
@@ -72,7 +81,19 @@ pub const NAMES: [&str; 28] = [
     "pattern_place",
     "pattern_repeat",
     "last",
+    "tile_whole",
 ];
+
+/// The name of a word; one of the tile's goes by its first byte.
+pub fn word_name(word: usize) -> String {
+    match NAMES.get(word) {
+        Some(name) => name.to_string(),
+        None => {
+            let byte = 4 * (word - FIELDS);
+            format!("tile[{}][{}]", byte / COLUMNS, byte % COLUMNS)
+        }
+    }
+}
 
 /// Where the registers begin among the words, in the order of their numbers.
 const FIRST_REGISTER: usize = 12;
@@ -81,7 +102,7 @@ impl Record {
     /// "Fresh: all registers zero but MASK 255; pattern at 0, 0; last point (0, 0);
     /// slots empty".
     pub fn fresh(width: u32, height: u32, entries: u32) -> Record {
-        let mut record = Record::from_words(&[0; 28]);
+        let mut record = Record::from_words(&[0; WORDS]);
         record.width = width;
         record.height = height;
         record.entries = entries;
@@ -89,8 +110,17 @@ impl Record {
         record
     }
 
-    /// The fields in the order of their names.
-    pub fn words(&self) -> [u32; 28] {
+    /// The fields in the order of their names, then the tile.
+    pub fn words(&self) -> [u32; WORDS] {
+        let (fields, bytes) = (self.fields(), self.tile.as_flattened());
+        let of_tile = |word: usize| std::array::from_fn(|k| bytes[4 * (word - FIELDS) + k]);
+        std::array::from_fn(|word| match fields.get(word) {
+            Some(field) => *field,
+            None => u32::from_le_bytes(of_tile(word)),
+        })
+    }
+
+    fn fields(&self) -> [u32; FIELDS] {
         [
             self.width,
             self.height,
@@ -120,17 +150,22 @@ impl Record {
             self.pattern_place,
             self.pattern_repeat,
             self.last,
+            self.tile_whole,
         ]
     }
 
     /// The record with these fields, whether well-formed or not.
-    pub fn from_words(words: &[u32; 28]) -> Record {
-        let [width, height, entries, slots @ .., pattern_place, pattern_repeat, last] = *words;
-        let [active_taken, active_start, active_count, slots @ ..] = slots;
-        let [pending_taken, pending_start, pending_count, progress @ ..] = slots;
-        let [next, under_way, visited, registers @ ..] = progress;
-        let [cmd, fore, back, mask, key, lpat, pctrl, places @ ..] = registers;
-        let [clptl, clpbr, xy0, xy2, xy3, xy1] = places;
+    pub fn from_words(words: &[u32; WORDS]) -> Record {
+        let [width, height, entries, rest @ ..] = *words;
+        let [active_taken, active_start, active_count, rest @ ..] = rest;
+        let [pending_taken, pending_start, pending_count, rest @ ..] = rest;
+        let [next, under_way, visited, rest @ ..] = rest;
+        let [cmd, fore, back, mask, key, lpat, pctrl, rest @ ..] = rest;
+        let [clptl, clpbr, xy0, xy2, xy3, xy1, rest @ ..] = rest;
+        let [pattern_place, pattern_repeat, last, tile_whole, bytes @ ..] = rest;
+        let byte = |k: usize| bytes[k / 4].to_le_bytes()[k % 4];
+        let row = |row| std::array::from_fn(|column| byte(COLUMNS * row + column));
+        let tile = std::array::from_fn(row);
         #[rustfmt::skip]
         let record = Record {
             width, height, entries,
@@ -140,14 +175,15 @@ impl Record {
             cmd, fore, back, mask, key, lpat, pctrl,
             clptl, clpbr, xy0, xy2, xy3, xy1,
             pattern_place, pattern_repeat, last,
+            tile_whole, tile,
         };
         record
     }
 
     /// The registers in the order of their numbers.
     pub fn registers(&self) -> [u32; register::COUNT] {
-        let words = self.words();
-        std::array::from_fn(|number| words[FIRST_REGISTER + number])
+        let fields = self.fields();
+        std::array::from_fn(|number| fields[FIRST_REGISTER + number])
     }
 
     /// The part of the record that a step works on.
@@ -161,6 +197,7 @@ impl Record {
             last: self.last,
             under_way: self.under_way == 1,
             visited: self.visited,
+            tile: (self.tile_whole == 1).then_some(self.tile),
         }
     }
 
@@ -174,6 +211,8 @@ impl Record {
             last: state.last,
             under_way: u32::from(state.under_way),
             visited: state.visited,
+            tile_whole: u32::from(state.tile.is_some()),
+            tile: state.tile.unwrap_or_default(),
             ..Record::from_words(&words)
         };
     }
@@ -205,6 +244,7 @@ impl Record {
             ("a taken slot's span passes the memory", passes),
             ("the next entry is outside the active list", !self.next_in_active()),
             ("the visited pixels are not below the command's count", visited_all),
+            ("the tile is not as the fill has it", !self.tile_kept()),
         ];
         clauses.iter().filter(|c| c.1).map(|c| c.0).collect()
     }
@@ -216,7 +256,8 @@ impl Record {
 
     /// Flags are fields of their own, apart from the spans: 0 or 1.
     fn flags_legal(&self) -> bool {
-        self.active_taken <= 1 && self.pending_taken <= 1 && self.under_way <= 1
+        let slots = self.active_taken <= 1 && self.pending_taken <= 1;
+        slots && self.under_way <= 1 && self.tile_whole <= 1
     }
 
     /// "the count of visited pixels is not below the current command's count". The count
@@ -247,6 +288,18 @@ impl Record {
             && zero_unless(self.pending_taken, self.pending_start)
             && zero_unless(self.pending_taken, self.pending_count)
             && zero_unless(self.under_way, self.visited)
+    }
+
+    /// "The record holds whether the tile was whole, and if so the tile, until the fill
+    /// ends, and zeros otherwise, else it is malformed; wholeness is judged by its own
+    /// registers and sizes, and a whole tile's bytes are free." (document 02, R-7)
+    fn tile_kept(&self) -> bool {
+        let state = self.state();
+        if state.is_tiled() && state.tile_is_whole() {
+            self.tile_whole != 0
+        } else {
+            self.tile_whole == 0 && self.tile == Tile::default()
+        }
     }
 
     /// The spans (start, count) of the taken slots, the active one first.

@@ -3,9 +3,10 @@
 
 use crate::drawing::{line_length, point, Buffers, Point};
 use crate::entries::{entry_at, flag, opcode, pattern_control, register, Command};
+use crate::tiles::Tile;
 
-/// The buffers' size, the registers, the pattern state, the last point and the command
-/// under way.
+/// The buffers' size, the registers, the pattern state, the last point, the command under
+/// way and its tile.
 #[derive(Clone, Copy, PartialEq, Eq, Debug)]
 pub struct State {
     pub width: u32,
@@ -18,6 +19,8 @@ pub struct State {
     pub under_way: bool,
     /// The visited pixels of the command under way.
     pub visited: u32,
+    /// The tile of a fill under way, where it was whole.
+    pub tile: Option<Tile>,
 }
 
 /// What became of a step; an illegal entry is not fetched and is no step.
@@ -42,6 +45,7 @@ impl State {
             last: 0,
             under_way: false,
             visited: 0,
+            tile: None,
         }
     }
 
@@ -56,6 +60,7 @@ impl State {
             Step::Visited
         } else if let Some((number, data)) = entry_at(list, next) {
             self.write(number, data);
+            self.take_tile(buffers);
             Step::Fetched
         } else {
             Step::Illegal
@@ -104,17 +109,19 @@ impl State {
     fn visit(&mut self, buffers: &mut Buffers) {
         self.draw(self.visited, buffers);
         self.visited += 1;
-        if u64::from(self.visited) == self.pixel_count() {
+        if u64::from(self.visited) >= self.pixel_count() {
             self.finish_command();
         }
     }
 
     /// The last point "is set in the step that visits the command's last pixel".
-    /// "the visited pixels with no command under way are all zero".
+    /// "the visited pixels with no command under way are all zero". The tile is held
+    /// "until the fill ends" (document 02, R-7).
     pub fn finish_command(&mut self) {
         self.last = self.registers[register::XY1];
         self.under_way = false;
         self.visited = 0;
+        self.tile = None;
     }
 
     /// "A blit is to visit only destination pixels inside the buffer and, with CLIP,

@@ -49,6 +49,15 @@ fn draw_answers() {
         ];
         list.concat()
     };
+    // Code 15 everywhere, from a tile that no board of 8 by 4 has.
+    let tiled = |flags| {
+        let list = [
+            [0x00, 0x1F, flags, 0x40, 0x00],
+            [0x50, 0x00, 0x09, 0x00, 0x09],
+            [0x60, 0x00, 0x05, 0x00, 0x01],
+        ];
+        list.concat()
+    };
     for (input, first_line) in [
         (nothing(0), "answer 3 steps 0 idle"),
         (vec![0; 4], "answer 2 steps 0 idle"),
@@ -59,6 +68,10 @@ fn draw_answers() {
         (fill(0, 1), "answer 0 steps 3 idle"),
         (fill(8, 1), "answer 0 steps 35 idle"),
         (fill(8, 8), "answer 0 steps 35 idle"),
+        (tiled(0x00), "answer 0 steps 12 idle"),
+        (tiled(0x10), "answer 6 steps 0 idle"),
+        (tiled(0x20), "answer 6 steps 0 idle"),
+        (tiled(0x80), "answer 6 steps 0 idle"),
     ] {
         let expected = format!("{first_line}\n{}", ZERO_ROW.repeat(4));
         assert_eq!(run(DRAW, &input), (0, expected, "".into()));
@@ -122,6 +135,20 @@ fn calls_name_bad_lines() {
         assert_eq!(status, 2, "{input}");
         assert!(errors.starts_with(message), "{errors}");
     }
+}
+
+/// A tiled fill cut by its budget: the record printed at the end has the tile.
+#[test]
+fn calls_show_a_tile() {
+    let row: String = (1..17).map(|byte| format!(" {byte:02X}")).collect();
+    let input = format!(
+        "make 16 8 4\nwrite 1 112{row}\nstore 0 0013014000 5000100008 6000000000\npost 0 3\nrun 5\n"
+    );
+    let (status, output, _) = run(CALLS, input.as_bytes());
+    let zeros = format!("{}\n", ["00"; 16].join(" ")).repeat(7);
+    let tile = format!("tile_whole 1\ntile\n{zeros}{}\nfeed", row.trim_start());
+    assert_eq!(status, 0);
+    assert!(output.contains("visited 2\n") && output.contains(&tile));
 }
 
 #[test]

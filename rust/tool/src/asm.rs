@@ -217,9 +217,16 @@ mod tests {
         assert_eq!(table, "frame 1 2\nname 3 0\nlast 3 1\n");
     }
 
+    /// Each text has this fault.
+    fn have(faults: &[(&str, &str)]) {
+        for &(text, fault) in faults {
+            assert_eq!(assembled(text).map(|done| done.entries), Err(fault.into()));
+        }
+    }
+
     #[test]
-    fn faults_are_told_by_their_place() {
-        for (text, fault) in [
+    fn faults_of_fields_are_told_by_their_place() {
+        have(&[
             ("FOUR 7", "1:1: 'FOUR' is no register and no ten hex digits"),
             ("FORE", "1:5: a number for FORE is missing"),
             ("FORE seven", "1:6: 'seven' is not a number for FORE"),
@@ -241,6 +248,12 @@ mod tests {
             ),
             ("PCTRL length 33 scale 1", "1:14: '33' is not 1 to 32"),
             ("PCTRL scale 1", "1:7: 'scale' is not 'length'"),
+        ]);
+    }
+
+    #[test]
+    fn faults_of_digits_and_labels_are_told_by_their_place() {
+        have(&[
             (
                 "080000000 FORE 7",
                 "1:1: '080000000' is no register and no ten hex digits",
@@ -262,8 +275,6 @@ mod tests {
                 "4th: FORE 1",
                 "1:1: '4th' is no label, which is letters, digits and _",
             ),
-        ] {
-            assert_eq!(assembled(text).map(|done| done.entries), Err(fault.into()));
-        }
+        ]);
     }
 }

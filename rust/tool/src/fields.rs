@@ -175,6 +175,7 @@ mod tests {
                 0x1321_8000,
                 "BITBLT copy STPL SOURCE_VIRTUAL DESTINATION_VIRTUAL",
             ),
+            (0, 0x1300_4000, "BITBLT copy APAT"),
             (0, 0x3380_0003, "3 copy SOLID 0x0003"),
             (1, 7, "7"),
             (3, 15, "0x0F"),

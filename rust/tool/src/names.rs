@@ -68,7 +68,7 @@ pub const RASTER_CODES: [&str; 16] = [
 ];
 
 /// The flags of CMD, the most significant first.
-pub const FLAGS: [(Flags, &str); 9] = [
+pub const FLAGS: [(Flags, &str); 10] = [
     (Flags::SOLID, "SOLID"),
     (Flags::TRNSP, "TRNSP"),
     (Flags::STPL, "STPL"),
@@ -78,6 +78,7 @@ pub const FLAGS: [(Flags, &str); 9] = [
     (Flags::CLIP, "CLIP"),
     (Flags::SOURCE_VIRTUAL, "SOURCE_VIRTUAL"),
     (Flags::DESTINATION_VIRTUAL, "DESTINATION_VIRTUAL"),
+    (Flags::APAT, "APAT"),
 ];
 
 /// The directions of XY3.

@@ -36,7 +36,7 @@ const NONE: Flags = Flags::NONE;
 const SOLID_OR_STPL: Flags = Flags::SOLID.union(Flags::STPL);
 
 /// The styles that are illegal in CMD.
-const STYLES: [Style; 8] = [
+const STYLES: [Style; 12] = [
     style(
         BLITS,
         Flags::KEY.union(Flags::SOLID),
@@ -50,6 +50,19 @@ const STYLES: [Style; 8] = [
         SOLID_OR_STPL,
         "TRNSP with neither SOLID nor STPL",
     ),
+    style(
+        BLITS,
+        Flags::APAT.union(Flags::SOLID),
+        NONE,
+        "APAT with SOLID",
+    ),
+    style(
+        BLITS,
+        Flags::APAT.union(Flags::STPL),
+        NONE,
+        "APAT with STPL",
+    ),
+    style(BLITS, Flags::APAT.union(Flags::KEY), NONE, "APAT with KEY"),
     style(BLITS, Flags::NLST, NONE, "NLST with a blit"),
     style(BLITS, Flags::PRST, NONE, "PRST with a blit"),
     style(
@@ -65,6 +78,7 @@ const STYLES: [Style; 8] = [
         NONE,
         "SOURCE_VIRTUAL with a line",
     ),
+    style(LINES, Flags::APAT, NONE, "APAT with a line"),
 ];
 
 /// Every ground on which the entry is illegal; none where it is legal.
@@ -279,6 +293,10 @@ mod tests {
             (0, 0x1390_0000, "KEY with SOLID"),
             (0, 0x1330_0000, "KEY with STPL"),
             (0, 0x1340_0000, "TRNSP with neither SOLID nor STPL"),
+            (0, 0x1380_4000, "APAT with SOLID"),
+            (0, 0x1320_4000, "APAT with STPL"),
+            (0, 0x1310_4000, "APAT with KEY"),
+            (0, 0x1340_4000, "TRNSP with neither SOLID nor STPL"),
             (0, 0x138C_0000, "NLST with a blit, PRST with a blit"),
             (0, 0x2300_0000, "a line with neither SOLID nor STPL"),
             (
@@ -286,6 +304,8 @@ mod tests {
                 0x5391_0000,
                 "KEY with a line, SOURCE_VIRTUAL with a line",
             ),
+            (0, 0x2380_4000, "APAT with a line"),
+            (0, 0x1300_6000, "0x2000 is no flag"),
             (0, 0x2380_0003, "0x0003 is no flag"),
             (0, 0x0300_0000, "NOOP with other bits set"),
             (0, 0x3380_0000, "there is no opcode 3"),

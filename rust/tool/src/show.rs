@@ -1,5 +1,7 @@
 //! `show`: runs a list and shows the board.
 
+use pramolyt::list::ENTRY_BYTES;
+
 use crate::args::Given;
 use crate::failure::{Failure, complain};
 use crate::files::{print, write_file};
@@ -61,7 +63,7 @@ fn run_all(setup: &mut Setup, budget: u64, runs: u64) -> Result<u64, Failure> {
         done += 1;
         progress.tick(|| {
             let next = setup.panel.board().next_entry();
-            let count = setup.list.len() / 5;
+            let count = setup.list.len() / ENTRY_BYTES;
             format!("entry {next} of {count}, {steps} steps")
         });
     }

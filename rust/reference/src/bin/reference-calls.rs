@@ -22,12 +22,13 @@
 //!
 //! Each call prints its line number, its name, the answer, the place and the steps; an
 //! export the bytes written too, and the picture in hexadecimal bytes.
-//! The end prints the board record, a field a line, the feed record, both pictures in rows of hexadecimal
-//! bytes, and whether the paper board agreed after every call; status 1 where it did
-//! not. A bad line ends the sequence with a message on standard
-//! error and status 2.
+//! The end prints the board record, a field a line and the tile in rows, the feed record,
+//! both pictures in rows of hexadecimal bytes, and whether the paper board agreed after
+//! every call; status 1 where it did not. A bad line ends the sequence with a message on
+//! standard error and status 2.
 
 use reference::text::hex_rows;
+use reference::tiles::COLUMNS;
 use reference::{Feed, Report, Sequence, NAMES};
 use std::io::{Read, Write};
 use std::process::ExitCode;
@@ -211,6 +212,8 @@ fn ending(sequence: &Sequence, feed: &Feed) -> String {
     for (name, word) in NAMES.iter().zip(record.words()) {
         text.push_str(&format!("{name} {word}\n"));
     }
+    text.push_str("tile\n");
+    text.push_str(&hex_rows(record.tile.as_flattened(), COLUMNS as u32));
     let Feed { next, held, count } = feed;
     text.push_str(&format!(
         "feed next {next} held {held:02X?} count {count}\n"

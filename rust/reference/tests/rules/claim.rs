@@ -3,8 +3,11 @@
 use crate::common::*;
 use reference::pictures::picture;
 use reference::{
-    export, feed, import, make, post, run, store, window_write, Feed, Record, Sequence,
+    export, feed, import, make, post, run, store, window_write, Feed, Record, Sequence, WORDS,
 };
+
+/// A board that no tile fits, and one that has room for it.
+const SIZES: [(u64, u64); 2] = [(8, 4), (20, 10)];
 
 /// A small generator of numbers (xorshift).
 struct Random(u64);
@@ -36,6 +39,7 @@ impl Random {
         let near = xy(self.below(14) as i32 - 3, self.below(10) as i32 - 3);
         let commands = [
             0x1000_0000,
+            0x1000_4000,
             0x1020_0000,
             0x2020_0000,
             0x2080_0000,
@@ -93,12 +97,14 @@ fn call(random: &mut Random, board: &mut Sequence, line: &mut Feed) -> bool {
             )
         }
         7 => {
-            let mut output = vec![0; random.below(60) as usize];
+            let mut output = vec![0; board.display.len() + random.below(28) as usize];
             board.export(random.below(3), &mut output)
         }
         8 => {
-            let pixels: Vec<u8> = (0..32).map(|_| random.word() as u8).collect();
-            let picture = picture(random.pick(&[8, 8, 8, 4]), 4, &pixels);
+            let Record { width, height, .. } = board.record;
+            let area = width * height;
+            let pixels: Vec<u8> = (0..area).map(|_| random.word() as u8).collect();
+            let picture = picture(random.pick(&[width, width, width, 4]), height, &pixels);
             board.import(random.below(3), &picture)
         }
         _ => {
@@ -113,8 +119,9 @@ fn call(random: &mut Random, board: &mut Sequence, line: &mut Feed) -> bool {
 fn random_sequences_agree_with_the_paper_board() {
     let mut random = Random(0x1234_5678_9ABC_DEF1);
     let (mut done, mut calls) = (0, 0);
-    for _ in 0..400 {
-        let mut board = board(8, 4, 16);
+    for number in 0..400 {
+        let (width, height) = SIZES[number % 2];
+        let mut board = board(width, height, 16);
         let mut line = Feed::start(random.below(17));
         for _ in 0..200 {
             calls += 1;
@@ -129,9 +136,10 @@ fn random_sequences_agree_with_the_paper_board() {
 #[test]
 fn runs_in_pieces() {
     let mut random = Random(0x0F1E_2D3C_4B5A_6978);
-    for _ in 0..300 {
+    for number in 0..300 {
+        let (width, height) = SIZES[number % 2];
         let list: Vec<u8> = (0..16).flat_map(|_| random.entry()).collect();
-        let mut boards = [board(8, 4, 16), board(8, 4, 16)];
+        let mut boards = [board(width, height, 16), board(width, height, 16)];
         for board in &mut boards {
             board.store(0, &list);
             board.post(0, 16);
@@ -202,7 +210,8 @@ fn any_record(random: &mut Random) -> Record {
     );
     let mut words = record.words();
     for _ in 0..random.below(4) {
-        let (at, small, any) = (random.below(28) as usize, random.below(9), random.word());
+        let at = random.below(WORDS as u64) as usize;
+        let (small, any) = (random.below(9), random.word());
         words[at] = random.pick(&[small as u32, any, u32::MAX, 0x2380_0000]);
     }
     Record::from_words(&words)

@@ -17,6 +17,7 @@ pub const PRST: u32 = 1 << 18;
 pub const CLIP: u32 = 1 << 17;
 pub const FROM_VIRTUAL: u32 = 1 << 16;
 pub const TO_VIRTUAL: u32 = 1 << 15;
+pub const APAT: u32 = 1 << 14;
 
 /// A word of two halves, x or width high.
 pub fn xy(x: i32, y: i32) -> u32 {

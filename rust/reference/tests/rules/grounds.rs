@@ -1,7 +1,7 @@
 //! "What the host hears": the grounds of each call and their order.
 
 use crate::common::*;
-use reference::{make, post, run, store, window_write, Record, Report};
+use reference::{make, post, run, store, window_write, Record, Report, WORDS};
 
 const HUGE: u64 = u64::MAX;
 
@@ -26,7 +26,7 @@ fn make_sizes() {
         } else {
             [1, 1, 1]
         };
-        let mut fresh = [0; 28];
+        let mut fresh = [0; WORDS];
         (fresh[0], fresh[1], fresh[2], fresh[15]) = (w, h, e, 255);
         assert_eq!(record.words(), fresh);
     }

@@ -12,4 +12,5 @@ mod paper;
 mod pictures;
 mod pixels;
 mod stipples;
+mod tiles;
 mod visits;

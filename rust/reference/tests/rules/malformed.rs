@@ -1,7 +1,10 @@
 //! "A record is malformed when": each clause by a record that fails by it alone.
 
 use crate::common::*;
-use reference::{make, post, run, store, window_write, Record, NAMES};
+use reference::record::word_name;
+use reference::{
+    export, feed, import, make, post, run, store, window_write, Feed, Record, NAMES, WORDS,
+};
 
 type Base = fn() -> Record;
 type Change = fn(&mut Record);
@@ -43,6 +46,33 @@ fn filling() -> Record {
     }
 }
 
+/// The same lists with a tiled fill of 20 by 10 pixels under way on a board of that size,
+/// 150 of them visited, its tile whole at (4, 2).
+fn tiling() -> Record {
+    Record {
+        width: 20,
+        height: 10,
+        visited: 150,
+        cmd: COPY | APAT,
+        xy0: xy(4, 2),
+        xy1: xy(0, 0),
+        xy2: xy(20, 10),
+        tile_whole: 1,
+        tile: [[5; 16]; 8],
+        ..drawing()
+    }
+}
+
+/// The same with a tile that is not whole.
+fn not_whole() -> Record {
+    Record {
+        xy0: xy(5, 2),
+        tile_whole: 0,
+        tile: [[0; 16]; 8],
+        ..tiling()
+    }
+}
+
 /// Applies the change; the clauses that hold, and that each call then answers 1 and
 /// leaves all as given, also where a memory is of another size.
 fn faults(mut record: Record, change: Change) -> Vec<&'static str> {
@@ -54,11 +84,14 @@ fn faults(mut record: Record, change: Change) -> Vec<&'static str> {
         let answers = [
             post(&mut record, &a, 0, 0),
             store(&mut record, &mut a, 99, &[1]),
+            feed(&mut record, &mut Feed::start(0), &mut a, &[]),
             window_write(&mut record, 9, 99, &[1], &mut b),
+            export(&mut record, 9, &b, &mut c),
+            import(&mut record, 9, b"P5", &mut b),
             run(&mut record, 9, &a, &mut b, &mut c),
         ];
         if !faults.is_empty() {
-            assert_eq!(answers, [plain(1); 4]);
+            assert_eq!(answers, [plain(1); 7]);
             assert_eq!(record, before);
         } else {
             assert!(answers.iter().all(|report| report.number != 1));
@@ -79,12 +112,15 @@ const EMPTY: &str = "a taken slot's span is empty";
 const PASSES: &str = "a taken slot's span passes the memory";
 const NEXT: &str = "the next entry is outside the active list";
 const VISITED: &str = "the visited pixels are not below the command's count";
+const TILE: &str = "the tile is not as the fill has it";
 
 /// A clause, a well-formed record and the change by which that clause alone holds.
-const CLAUSES: [(&str, Base, Change); 48] = [
+const CLAUSES: [(&str, Base, Change); 73] = [
     (FLAG, waiting, |r| r.active_taken = 2),
     (FLAG, waiting, |r| r.pending_taken = u32::MAX),
     (FLAG, drawing, |r| r.under_way = 3),
+    (FLAG, tiling, |r| r.tile_whole = 2),
+    (FLAG, tiling, |r| r.tile_whole = u32::MAX),
     (SIZE, idle, |r| r.width = 0),
     (SIZE, idle, |r| r.width = 2_049),
     (SIZE, idle, |r| r.height = 0),
@@ -92,6 +128,8 @@ const CLAUSES: [(&str, Base, Change); 48] = [
     (SIZE, idle, |r| r.entries = 0),
     (SIZE, idle, |r| r.entries = 4_097),
     (REGISTER, idle, |r| r.cmd = 1),
+    (REGISTER, idle, |r| r.cmd = FILL | APAT),
+    (REGISTER, tiling, |r| r.cmd |= KEYED),
     (REGISTER, idle, |r| r.fore = 256),
     (REGISTER, idle, |r| r.back = 256),
     (REGISTER, idle, |r| r.mask = 256),
@@ -142,6 +180,27 @@ const CLAUSES: [(&str, Base, Change); 48] = [
     (VISITED, drawing, |r| {
         (r.visited, r.cmd, r.last) = (1, SOLID_PLINE, r.xy1)
     }),
+    (VISITED, tiling, |r| r.visited = 200),
+    (VISITED, not_whole, |r| r.visited = 200),
+    (TILE, idle, |r| r.tile_whole = 1),
+    (TILE, idle, |r| r.tile[0][0] = 1),
+    (TILE, idle, |r| r.tile[7][15] = 128),
+    (TILE, idle, |r| (r.cmd, r.tile_whole) = (COPY | APAT, 1)),
+    (TILE, waiting, |r| (r.tile_whole, r.tile[3]) = (1, [9; 16])),
+    (TILE, drawing, |r| r.tile_whole = 1),
+    (TILE, filling, |r| r.tile[4][3] = 2),
+    (TILE, tiling, |r| r.tile_whole = 0),
+    (TILE, tiling, |r| (r.tile_whole, r.tile) = (0, [[0; 16]; 8])),
+    (TILE, tiling, |r| r.cmd = COPY),
+    (TILE, tiling, |r| r.xy0 = xy(-1, 2)),
+    (TILE, tiling, |r| r.xy0 = xy(5, 2)),
+    (TILE, tiling, |r| r.xy0 = xy(4, -1)),
+    (TILE, tiling, |r| r.xy0 = xy(4, 3)),
+    (TILE, tiling, |r| (r.width, r.visited) = (19, 0)),
+    (TILE, tiling, |r| (r.height, r.visited) = (9, 0)),
+    (TILE, not_whole, |r| r.tile_whole = 1),
+    (TILE, not_whole, |r| r.tile[2][1] = 7),
+    (TILE, not_whole, |r| r.xy0 = xy(4, 2)),
 ];
 
 #[test]
@@ -161,7 +220,7 @@ fn empty_active_list() {
 /// that is no XY1.
 #[test]
 fn well_formed_neighbours() {
-    let rows: [(Base, Change); 20] = [
+    let rows: [(Base, Change); 29] = [
         (idle, |_| {}),
         (idle, |r| (r.width, r.height, r.entries) = (2_048, 1, 4_096)),
         (idle, |r| {
@@ -188,6 +247,15 @@ fn well_formed_neighbours() {
         (drawing, |r| {
             (r.visited, r.cmd, r.last) = (32_772, SOLID_PLINE, xy(-32_768, 0))
         }),
+        (idle, |r| r.cmd = COPY | APAT),
+        (tiling, |_| {}),
+        (tiling, |r| r.tile = [[0; 16]; 8]),
+        (tiling, |r| r.tile[7][15] = 255),
+        (tiling, |r| (r.xy0, r.xy3, r.xy1) = (0, 3, xy(19, 9))),
+        (tiling, |r| r.cmd |= FROM_VIRTUAL | TO_VIRTUAL),
+        (not_whole, |_| {}),
+        (not_whole, |r| r.xy0 = xy(-32_768, 32_767)),
+        (not_whole, |r| (r.cmd, r.xy0) = (COPY, xy(4, 2))),
     ];
     for (base, change) in rows {
         assert_eq!(faults(base(), change), [""; 0]);
@@ -196,11 +264,30 @@ fn well_formed_neighbours() {
 
 #[test]
 fn words_and_names() {
-    let words: [u32; 28] = std::array::from_fn(|word| word as u32 + 1);
+    let words: [u32; WORDS] = std::array::from_fn(|word| word as u32 + 1);
     let record = Record::from_words(&words);
     assert_eq!(record.words(), words);
     let text = format!("{record:?}");
     for (name, word) in NAMES.iter().zip(words) {
         assert!(text.contains(&format!(" {name}: {word}")), "{name}");
     }
+}
+
+/// The tile is words 29 to 60, row by row, four bytes a word, the first one lowest.
+#[test]
+fn words_of_the_tile() {
+    for (word, row, column, name) in [
+        (29, 0, 0, "tile[0][0]"),
+        (30, 0, 4, "tile[0][4]"),
+        (33, 1, 0, "tile[1][0]"),
+        (60, 7, 12, "tile[7][12]"),
+    ] {
+        let mut words = [0; WORDS];
+        words[word] = 0x0403_0201;
+        let record = Record::from_words(&words);
+        assert_eq!(record.tile[row][column..column + 4], [1, 2, 3, 4]);
+        assert_eq!(record.tile.as_flattened().iter().sum::<u8>(), 10);
+        assert_eq!((word_name(word).as_str(), record.words()), (name, words));
+    }
+    assert_eq!(word_name(28), "tile_whole");
 }

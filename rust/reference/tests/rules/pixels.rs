@@ -44,10 +44,11 @@ fn raster_codes() {
 }
 
 /// A register, a word and whether the word is legal there.
-const WORDS: [(usize, u32, bool); 40] = [
+const WORDS: [(usize, u32, bool); 45] = [
     (CMD, 0, true),
     (CMD, 1 << 24, false),
     (CMD, 1 << 15, false),
+    (CMD, APAT, false),
     (CMD, 1, false),
     (CMD, FILL, true),
     (CMD, FILL | TRNSP, true),
@@ -58,7 +59,10 @@ const WORDS: [(usize, u32, bool); 40] = [
     (CMD, COPY | STPL, true),
     (CMD, COPY | NLST, false),
     (CMD, COPY | PRST, false),
-    (CMD, COPY | 1 << 14, false),
+    (CMD, COPY | APAT, true),
+    (CMD, COPY | APAT | KEYED, false),
+    (CMD, COPY | 1 << 13, false),
+    (CMD, FILL | APAT, false),
     (
         CMD,
         SOLID_LINE | TRNSP | NLST | PRST | CLIP | TO_VIRTUAL,
@@ -68,6 +72,7 @@ const WORDS: [(usize, u32, bool); 40] = [
     (CMD, SOLID_LINE | KEYED, false),
     (CMD, SOLID_LINE | FROM_VIRTUAL, false),
     (CMD, SOLID_LINE | 1, false),
+    (CMD, SOLID_LINE | APAT, false),
     (CMD, DASHED_LINE, true),
     (CMD, 0x2300_0000, false),
     (CMD, 0x5F20_0000, true),

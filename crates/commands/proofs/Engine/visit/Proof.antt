@@ -42,7 +42,7 @@ returns c =
     let at = o .before .before .before .before in
     let found = at .before in
     let s = found .before .before .before .before .before .before .before .args in
-    visit-virtual (s .extent) (s .self) (s .display .now) (s .virt .now) _ _ _ _ _ _ (found .before .command-of .ensures) (found .cell .ensures)
+    visit-virtual (s .extent) (s .self) (s .fill) (s .display .now) (s .virt .now) _ _ _ _ _ _ (found .before .command-of .ensures) (found .cell .ensures)
     (at .target .ensures) (o .before .source-of .ensures) (o .advanced .ensures) (chosen .if1 .taken) (c .before .before .ink .ensures)
 
 same-length-3 : tie.Need-same-length-3
@@ -58,7 +58,7 @@ returns-2 c =
     let at = o .before .before .before .before in
     let found = at .before in
     let s = found .before .before .before .before .before .before .before .args in
-    visit-display (s .extent) (s .self) (s .display .now) (s .virt .now) _ _ _ _ _ _ (found .before .command-of .ensures) (found .cell .ensures)
+    visit-display (s .extent) (s .self) (s .fill) (s .display .now) (s .virt .now) _ _ _ _ _ _ (found .before .command-of .ensures) (found .cell .ensures)
     (at .target .ensures) (o .before .source-of .ensures) (o .advanced .ensures) (chosen .if1 .left) (c .before .before .ink2 .ensures)
 
 pub visit-spec : {M : Type 1} → statement M

@@ -1,118 +1,156 @@
--- The loop's invariant is `Going`: k steps are done, and the rest of the run is that from here. A turn is the entries up to a
--- command (`entries-going`) and many of its visits (`going-visits`); the measure is what is left of the budget.
-use mathlib.Core.Bool.{false}
-use mathlib.Core.List.{[]}
-use mathlib.Core.Path.{ap, _∙_}
-use Prim.Native.Nat.{_-_}
+-- A fill that was held is still under way, and the budget is spent (`held-still`); or it has ended (`held-ended`), and the rest are steps
+-- with no tile held (`no-more`) and a fill that the budget cuts (`cut-fill`).
+use mathlib.Core.Path.{_≡_, sym, _∙_}
+use Prim.Native.Nat.{_+_, _≤_}
 use native.Mathlib.Omega.{arith}
-use Rattle.lists.specs.Spans.{endOf}
-use Rattle.commands.specs.Steps.{scene}
-use Rattle.leaps.specs.ListRuns.{Going}
-use Rattle.leaps.proofs.Running.{going-start, going-visits, going-spent, reaches, entries-going, entries-end, entries-left, entries-busy}
+use borrow.Author.Needs.{needs}
+use borrow.Author.Tests.{not-true, not-false}
+use Rattle.leaps.proofs.Hatched.{held-still, held-ended, no-more, cut-fill}
 use Rattle.leaps.proofs.list_runs.run_from.Statement.{statement}
 use Rattle.leaps.proofs.list_runs.run_from.Tie as tie
 
-abbrev Inv-loop : tie.InvT-loop
-Inv-loop extent budget list display₀ virt₀ e₀ c₀ k₀ display virt e c k =
-    Going list extent budget c₀ (scene e₀ display₀ virt₀) k c (scene e display virt)
+hatch-held-requires : tie.Need-hatch-held-requires
+hatch-held-requires c κs = search needs
 
-abbrev μ-loop : tie.MeasureT-loop
-μ-loop extent budget list display₀ virt₀ e₀ c₀ k₀ display virt e c k = budget - k
+hatches-requires : tie.Need-hatches-requires
+hatches-requires c κs = search needs
 
-loop-holds : tie.Need-loop-holds Inv-loop μ-loop
-loop-holds c = going-start _ _ _ _ _
+same-length : tie.Need-same-length
+same-length c = c .before .before .before .before .before .before .before .hatch-held .kept .1 .1 .1 .1 .0
 
-sub-take-entries : tie.Need-sub-take-entries Inv-loop μ-loop
-sub-take-entries c = omega arith
+same-length-2 : tie.Need-same-length-2
+same-length-2 c = c .before .before .before .before .before .before .before .hatch-held .kept .1 .1 .1 .1 .1 .0
 
-take-entries-requires : tie.Need-take-entries-requires Inv-loop μ-loop
-take-entries-requires c κs =
-    let same = ap endOf (c .before .loop .inv .span-same) in
-    omega (arith, same, c .before .before .before .before .before .pre)
-
-add-k : tie.Need-add-k Inv-loop μ-loop
-add-k c =
-    let r = c .before .before .before in
-    let i = r .before in
-    omega (arith, r .take-entries .ensures .going [] [] .under, i .loop-test .taken, i .before .before .before .before .before .fits .budget)
-
-same-length : tie.Need-same-length Inv-loop μ-loop
-same-length c = c .before .before .before .before .before .before .before .loop .inv .display-long
-
-same-length-2 : tie.Need-same-length-2 Inv-loop μ-loop
-same-length-2 c = c .before .before .before .before .before .before .before .loop .inv .virt-long
-
-returns : tie.Need-returns Inv-loop μ-loop
+returns : tie.Need-returns
 returns c =
-    let r = c .before .before .before .before .before in
-    entries-end _ _ _ _ _ _ _ _ _ _ (r .before .before .loop .inv) _ (r .take-entries .ensures) (c .if1 .taken)
+    let h = c .before .before .before .before .before .before .before in
+    held-still _ _ _ _ _ _ _ _ _ _ _ _ (h .hatch-held .ensures) (sym (c .before .hatches .ensures) ∙ c .if1 .taken)
 
-sub-visit-up-to : tie.Need-sub-visit-up-to Inv-loop μ-loop
-sub-visit-up-to c =
-    let r = c .before .before .before .before .before in
-    omega (arith, entries-left _ _ _ _ _ _ _ _ _ _ (r .before .before .loop .inv) _ (r .take-entries .ensures) (c .if1 .left))
+sub-run-unheld : tie.Need-sub-run-unheld
+sub-run-unheld c =
+    let h = c .before .before .before .before .before .before .before .before in
+    omega (arith, h .hatch-held .ensures .few)
 
-visit-up-to-requires : tie.Need-visit-up-to-requires Inv-loop μ-loop
-visit-up-to-requires c κs =
-    let o = c .before .before in
-    let r = o .before .before .before .before .before in
-    let left = entries-left _ _ _ _ _ _ _ _ _ _ (r .before .before .loop .inv) _ (r .take-entries .ensures) (o .if1 .left) in
-    let busy = entries-busy _ _ _ _ _ _ _ _ _ _ (r .before .before .loop .inv) _ (r .take-entries .ensures) (o .if1 .left) in
-    (busy, omega (arith, left), r .take-entries .ensures .counted busy)
+run-unheld-requires : tie.Need-run-unheld-requires
+run-unheld-requires c κs = search needs
 
-add-k-2 : tie.Need-add-k-2 Inv-loop μ-loop
-add-k-2 c =
-    let b = c .before .before .before .before .before .before in
-    let o = b .before .before .before in
-    let r = o .before .before .before .before .before in
-    let left = entries-left _ _ _ _ _ _ _ _ _ _ (r .before .before .loop .inv) _ (r .take-entries .ensures) (o .if1 .left) in
-    omega (arith, left, b .visit-up-to .ensures .few, r .before .before .before .before .before .before .fits .budget)
+-- no more steps than the budget
+within : (c : tie.After-run-unheld) →
+    let h = c .before .before .before .before .before .before .before .before .before .before .before in
+    h .hatch-held .result .steps + c .run-unheld .result .steps ≤ h .before .before .before .before .before .before .args .budget
+within c =
+    let h = c .before .before .before .before .before .before .before .before .before .before .before in
+    omega (arith, h .hatch-held .ensures .few, c .run-unheld .ensures .going .under)
 
-loop-less : tie.Need-loop-less Inv-loop μ-loop
-loop-less c =
-    let b = c .before .before .before .before .before .before in
-    let o = b .before .before .before in
-    let r = o .before .before .before .before .before in
-    let left = entries-left _ _ _ _ _ _ _ _ _ _ (r .before .before .loop .inv) _ (r .take-entries .ensures) (o .if1 .left) in
-    omega (arith, left, b .visit-up-to .ensures .some, b .visit-up-to .ensures .few)
+add-k : tie.Need-add-k
+add-k c =
+    let r = c .before .before .before .before .before .before .before .before in
+    let start = r .before .before .before .before .before .before .before .before .before .before .before .before .before .before .before .before .before in
+    omega (arith, within r, start .fits .budget)
 
-loop-again : tie.Need-loop-again Inv-loop μ-loop
-loop-again c =
-    let b = c .before .before .before .before .before .before in
-    let o = b .before .before .before in
-    let r = o .before .before .before .before .before in
-    let inv = r .before .before .loop .inv in
-    let taken = r .take-entries .ensures in
-    going-visits _ _ _ _ _ _ _ _ (entries-left _ _ _ _ _ _ _ _ _ _ inv _ taken (o .if1 .left)) (entries-going _ _ _ _ _ _ _ _ _ _ inv _ taken) _ _
-    (b .visit-up-to .ensures) (b .visit-up-to .kept .1 .1 .1 .1 .0) (b .visit-up-to .kept .1 .1 .1 .1 .1 .0)
+hatches-requires-2 : tie.Need-hatches-requires-2
+hatches-requires-2 c κs = search needs
 
-same-length-3 : tie.Need-same-length-3 Inv-loop μ-loop
-same-length-3 c = c .before .loop .inv .display-long
+no-fill-requires : tie.Need-no-fill-requires
+no-fill-requires c κs = search needs
 
-same-length-4 : tie.Need-same-length-4 Inv-loop μ-loop
-same-length-4 c = c .before .loop .inv .virt-long
+same-length-3 : tie.Need-same-length-3
+same-length-3 c =
+    let r = c .before .before .before .before .before .before .before .before .before .before .before in
+    let h = r .before .before .before .before .before .before .before .before .before .before .before in
+    r .run-unheld .kept .1 .1 .1 .1 .1 .0 ∙ h .hatch-held .kept .1 .1 .1 .1 .0
 
-returns-2 : tie.Need-returns-2 Inv-loop μ-loop
-returns-2 c = reaches _ _ _ _ _ false _ (going-spent _ _ _ _ _ _ _ _ (c .loop-test .left) (c .before .loop .inv))
+same-length-4 : tie.Need-same-length-4
+same-length-4 c =
+    let r = c .before .before .before .before .before .before .before .before .before .before .before in
+    let h = r .before .before .before .before .before .before .before .before .before .before .before in
+    r .run-unheld .kept .1 .1 .1 .1 .1 .1 .0 ∙ h .hatch-held .kept .1 .1 .1 .1 .1 .0
+
+returns-2 : tie.Need-returns-2
+returns-2 c =
+    let free = c .before in
+    let last = free .before in
+    let r = last .before .before .before .before .before .before .before .before .before in
+    let chosen = r .before .before .before .before in
+    let o = chosen .before in
+    let h = o .before .before .before .before .before .before in
+    no-more _ _ _ _ _ _ _ _ _
+    (held-ended _ _ _ _ _ _ _ _ _ _ _ _ (h .hatch-held .ensures) (sym (o .hatches .ensures) ∙ chosen .if1 .left))
+    _ _ _ (r .run-unheld .ensures) (sym (last .hatches2 .ensures) ∙ not-true _ (free .if2 .taken)) _ (c .no-fill .ensures)
+
+fill-taken-requires : tie.Need-fill-taken-requires
+fill-taken-requires c κs = search needs
+
+sub-hatch-some : tie.Need-sub-hatch-some
+sub-hatch-some c =
+    let r = c .before .before .before .before .before .before .before .before .before .before .before .before .before in
+    omega (arith, within r)
+
+hatch-some-requires : tie.Need-hatch-some-requires
+hatch-some-requires c κs = let cut = c .before .before .before .before .before in sym (cut .before .hatches2 .ensures) ∙ not-false _ (cut .if2 .left)
+
+fill-after-requires : tie.Need-fill-after-requires
+fill-after-requires c κs = search needs
+
+add-t23 : tie.Need-add-t23
+add-t23 c =
+    let h2 = c .before .before .before .before .before .before .before in
+    let r = h2 .before .before .before .before .before .before .before .before .before .before .before .before .before .before .before .before in
+    let start = r .before .before .before .before .before .before .before .before .before .before .before .before .before .before .before .before .before in
+    omega (arith, within r, h2 .hatch-some .ensures .few, start .fits .budget)
+
+same-length-5 : tie.Need-same-length-5
+same-length-5 c =
+    let h2 = c .before .before .before .before .before .before .before in
+    let r = h2 .before .before .before .before .before .before .before .before .before .before .before .before .before .before .before .before in
+    let h = r .before .before .before .before .before .before .before .before .before .before .before in
+    h2 .hatch-some .kept .1 .1 .1 .1 .0 ∙ r .run-unheld .kept .1 .1 .1 .1 .1 .0 ∙ h .hatch-held .kept .1 .1 .1 .1 .0
+
+same-length-6 : tie.Need-same-length-6
+same-length-6 c =
+    let h2 = c .before .before .before .before .before .before .before in
+    let r = h2 .before .before .before .before .before .before .before .before .before .before .before .before .before .before .before .before in
+    let h = r .before .before .before .before .before .before .before .before .before .before .before in
+    h2 .hatch-some .kept .1 .1 .1 .1 .1 .0 ∙ r .run-unheld .kept .1 .1 .1 .1 .1 .1 .0 ∙ h .hatch-held .kept .1 .1 .1 .1 .1 .0
+
+returns-3 : tie.Need-returns-3
+returns-3 c =
+    let left = c .before in
+    let h2 = left .before .before .before .before .before .before in
+    let taken = h2 .before .before .before in
+    let cut = taken .before .before .before in
+    let last = cut .before in
+    let r = last .before .before .before .before .before .before .before .before .before in
+    let chosen = r .before .before .before .before in
+    let o = chosen .before in
+    let h = o .before .before .before .before .before .before in
+    cut-fill _ _ _ _ _ _ _ _ _
+    (held-ended _ _ _ _ _ _ _ _ _ _ _ _ (h .hatch-held .ensures) (sym (o .hatches .ensures) ∙ chosen .if1 .left))
+    _ _ _ (r .run-unheld .ensures) (sym (last .hatches2 .ensures) ∙ not-false _ (cut .if2 .left)) _ (taken .fill-taken .ensures) _ _ _ _
+    (h2 .hatch-some .ensures) _ (left .fill-after .ensures)
 
 pub run-from-spec : {M : Type 1} → statement M
 run-from-spec =
     tie.close
     (tie.spec
-    Inv-loop
-    μ-loop
-    loop-holds
-    sub-take-entries
-    take-entries-requires
-    add-k
+    hatch-held-requires
+    hatches-requires
     same-length
     same-length-2
     returns
-    sub-visit-up-to
-    visit-up-to-requires
-    add-k-2
-    loop-less
-    loop-again
+    sub-run-unheld
+    run-unheld-requires
+    add-k
+    hatches-requires-2
+    no-fill-requires
     same-length-3
     same-length-4
-    returns-2)
+    returns-2
+    fill-taken-requires
+    sub-hatch-some
+    hatch-some-requires
+    fill-after-requires
+    add-t23
+    same-length-5
+    same-length-6
+    returns-3)

@@ -7,24 +7,28 @@ use borrow.Author.Needs.{needs}
 use lib.ListN.{length}
 use Rattle.commands.specs.Steps.{scene, visitsOf}
 use Rattle.commands.proofs.Visiting.{visits-none, visits-more}
+use Rattle.leaps.proofs.Hatched.{visited-by, with-fill}
 use Rattle.leaps.proofs.visits.visit_each.Statement.{statement}
 use Rattle.leaps.proofs.visits.visit_each.Tie as tie
 
 abbrev Inv-loop : tie.InvT-loop
-Inv-loop extent n display₀ virt₀ e₀ k₀ display virt e k =
+Inv-loop extent n display₀ virt₀ e₀ f₀ k₀ display virt e f k =
     (k ≤ n)
     × (length display ≡ length display₀)
     × (length virt ≡ length virt₀)
-    × (scene e display virt ≡ visitsOf k extent (scene e₀ display₀ virt₀))
+    × (scene e f display virt ≡ visitsOf k extent (scene e₀ f₀ display₀ virt₀))
 
 abbrev μ-loop : tie.MeasureT-loop
-μ-loop extent n display₀ virt₀ e₀ k₀ display virt e k = n - k
+μ-loop extent n display₀ virt₀ e₀ f₀ k₀ display virt e f k = n - k
 
 loop-holds : tie.Need-loop-holds Inv-loop μ-loop
 loop-holds c = (omega arith, refl, refl, visits-none _ _ _)
 
 visit-requires : tie.Need-visit-requires Inv-loop μ-loop
 visit-requires c κs = search needs
+
+fill-after-requires : tie.Need-fill-after-requires Inv-loop μ-loop
+fill-after-requires c κs = search needs
 
 add-k : tie.Need-add-k Inv-loop μ-loop
 add-k c = omega arith
@@ -34,12 +38,12 @@ loop-less c = omega arith
 
 loop-again : tie.Need-loop-again Inv-loop μ-loop
 loop-again c =
-    let o = c .before .before .before .before in
+    let o = c .before .before .before .before .before in
     let at = o .before .before .before .before in (
       omega arith,
-      o .visit .kept .1 .1 .0 ∙ at .loop .inv .1,
-      o .visit .kept .1 .1 .1 .0 ∙ at .loop .inv .2,
-      o .visit .ensures ∙ visits-more _ _ _ _ (at .loop .inv .3),
+      o .visit .kept .1 .1 .1 .0 ∙ at .loop .inv .1,
+      o .visit .kept .1 .1 .1 .1 .0 ∙ at .loop .inv .2,
+      with-fill _ _ _ _ _ _ (c .fill-after .ensures) (o .visit .ensures ∙ visits-more _ _ _ _ (at .loop .inv .3)),
     )
 
 same-length : tie.Need-same-length Inv-loop μ-loop
@@ -53,7 +57,8 @@ returns c =
     let at = c .before in
     let s = at .before .before .before .args in
     let all : at .loop .k ≡ s .n = omega arith in
-    at .loop .inv .3 ∙ ap (λ k. visitsOf k (s .extent) (scene (s .start) (s .display .now) (s .virt .now))) all
+    let start = scene (s .start) (s .fill) (s .display .now) (s .virt .now) in
+    visited-by (s .n) (s .extent) start _ _ _ _ (at .loop .inv .3 ∙ ap (λ k. visitsOf k (s .extent) start) all)
 
 pub visit-each-spec : {M : Type 1} → statement M
 visit-each-spec =
@@ -63,6 +68,7 @@ visit-each-spec =
     μ-loop
     loop-holds
     visit-requires
+    fill-after-requires
     add-k
     loop-less
     loop-again

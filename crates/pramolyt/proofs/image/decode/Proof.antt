@@ -17,10 +17,19 @@ engine-in-requires c κs = search needs
 array-read-t11 : tie.Need-array-read-t11
 array-read-t11 c = search needs
 
+fill-in-requires : tie.Need-fill-in-requires
+fill-in-requires c κs = search needs
+
 returns : tie.Need-returns
 returns c =
-    let active = c .before .before .before in
-    rw (active .before .sizes-in .ensures, active .slot-in .ensures, c .before .slot-in2 .ensures, c .engine-in .ensures)
+    let active = c .before .before .before .before in
+    rw (
+      active .before .sizes-in .ensures,
+      active .slot-in .ensures,
+      c .before .before .slot-in2 .ensures,
+      c .before .engine-in .ensures,
+      c .fill-in .ensures,
+    )
 
 pub decode-spec : {M : Type 1} → statement M
 decode-spec =
@@ -31,4 +40,5 @@ decode-spec =
     slot-in-requires-2
     engine-in-requires
     array-read-t11
+    fill-in-requires
     returns)

@@ -1,5 +1,7 @@
--- What `run_list` ensures of the active list, with the record that `moved` settles, is a leap (`leap-is`).
+-- What `run_list` ensures of the active list, with the record that `moved` settles, is a leap (`leap-is`); the tile has the sizes
+-- that its type says (`fill-sized`).
 use Rattle.board.proofs.Goes.{leap-is}
+use Rattle.board.proofs.Typed.{fill-sized}
 use Rattle.board.specs.Steps.{machine}
 use borrow.Author.Needs.{needs}
 use Rattle.board.proofs.record.Board.leap.Statement.{statement}
@@ -19,10 +21,11 @@ same-length-2 c = search needs
 
 returns : tie.Need-returns
 returns c =
-    let done = c .before .before .before .before .before .before .before in
-    let start = done .before .before .before .before .before .before .before .before .before .before in
+    let done = c .before .before .before .before .before .before .before .before in
+    let start = done .before .before .before .before .before .before .before .before .before .before .before in
     let s = start .args in
     leap-is (s .budget) (s .list .now) (machine (s .self) (s .display .now) (s .virt .now)) _ _ (start .pre .0) (start .pre .1) (start .pre .2)
+    (fill-sized (s .self) _ (start .good .0))
     (done .run-list .ensures) (c .moved .ensures)
 
 pub leap-spec : {M : Type 1} → statement M

@@ -9,6 +9,9 @@ in-limits-requires c κs = search needs
 well-formed-requires : tie.Need-well-formed-requires
 well-formed-requires c κs = search needs
 
+fill-ok-requires : tie.Need-fill-ok-requires
+fill-ok-requires c κs = search needs
+
 well-formed-requires-2 : tie.Need-well-formed-requires-2
 well-formed-requires-2 c κs = search needs
 
@@ -21,10 +24,11 @@ order-ok-requires c κs = search needs
 returns : tie.Need-returns
 unfolding wellFormed
 returns c =
-    let e = c .before .before .before in
+    let e = c .before .before .before .before in
     rw (
       e .before .in-limits .ensures,
       e .well-formed .ensures,
+      c .before .before .before .fill-ok .ensures,
       c .before .before .well-formed2 .ensures,
       c .before .well-formed3 .ensures,
       c .order-ok .ensures,
@@ -36,6 +40,7 @@ well-formed-spec =
     (tie.spec
     in-limits-requires
     well-formed-requires
+    fill-ok-requires
     well-formed-requires-2
     well-formed-requires-3
     order-ok-requires
