@@ -5,6 +5,7 @@ ghost use Rattle.geometry.specs.Coordinates.{pointOf};
 ghost use Rattle.strokes.specs.Strokes.{windowFits, strokeFits, strokeOf, dashed, dashesOf};
 
 mod bresenham;
+mod masks;
 mod phases;
 mod ranges;
 mod tracers;
