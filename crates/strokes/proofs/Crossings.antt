@@ -120,8 +120,8 @@ short : (i last steps : ℕ) → i < last → last ≤ steps + 1 → i ≤ steps
 short i last steps g l = omega arith
 
 -- a line whose ends are visible is visible whole
-pub visible-whole : (w : Window) (a b : Point) (first n : ℕ) (t : Bool) → first + n ≤ stepsOf a b + 1 → t ≡ (inWindow w a && inWindow w b) → t ≡ true
-    → Visible w a b first n (record { start = first; end = first + n })
+pub visible-whole : (w : Window) (a b : Point) (first n : ℕ) (t : Bool) → first + n ≤ stepsOf a b + 1
+    → t ≡ (inWindow w a && inWindow w b) → t ≡ true → Visible w a b first n (record { start = first; end = first + n })
 visible-whole w a b first n t l e f =
     let ends = from-a-to-b a b in
     let both = sym e ∙ f in

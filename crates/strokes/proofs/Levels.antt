@@ -18,14 +18,20 @@ use Rattle.rows.specs.Rows.{mixed, filled, copied, filledRow, copiedRow}
 use Rattle.rows.specs.declared.Mix.{Mix}
 use Rattle.rows.proofs.Fitting.{filled-row, copied-row}
 use Rattle.rows.proofs.Orders.{fill-turned-at, copy-turned-at}
-use Rattle.strokes.specs.Bresenham.{moved, bresenhamAfter, Places, plotAt}
+use Rattle.strokes.specs.Bresenham.{moved, bresenhamAfter, Places, InRow, plotAt}
 use Rattle.strokes.specs.Strokes.{plot}
 use Rattle.strokes.specs.Masks.{Masks, mixAt}
 use Rattle.strokes.specs.declared.bresenham.Bresenham.{Bresenham}
 use Rattle.strokes.specs.declared.bresenham.Strides.{Strides}
 
-pub level-test : (a b : ℕ) → (eqb a 0 && eqb b 1) ≡ true → (a ≡ 0) × (b ≡ 1)
-level-test a b h = (eqb-true a 0 (and-left (eqb a 0) (eqb b 1) h), eqb-true b 1 (and-right (eqb a 0) (eqb b 1) h))
+pub in-row : (s : Strides) → (eqb (s .growth) 0 && eqb (s .ahead + s .back) 1) ≡ true → InRow s
+in-row s h =
+    let level = eqb (s .growth) 0 in
+    let next = eqb (s .ahead + s .back) 1 in
+    record {
+      level = eqb-true (s .growth) 0 (and-left level next h);
+      next = eqb-true (s .ahead + s .back) 1 (and-right level next h);
+    }
 
 -- one byte after the other is a sweep
 turns-sweep : (place : ℕ → ℕ) (value : ℕ → List ℕ → ℕ) (n : ℕ) (l : List ℕ)
@@ -119,9 +125,9 @@ mask-inside : (n long : ℕ) → n ≤ 320 → long ≡ 640 → 320 - n + n ≤ 
 mask-inside n long h e = omega arith
 
 -- pixels j to j + n - 1 of a row, by a mask
-module _ (s : Strides) (start : Bresenham) (j n long : ℕ) (p : Places s start (j + n) long) (level : s .growth ≡ 0) (next : s .ahead + s .back ≡ 1)
-    (some : 0 < n) (fits : n ≤ 320) (mask : List ℕ) (wide : length mask ≡ 640) (mix : Mix) (l m : List ℕ) (e : length l ≡ long) (pixel : ℕ → ℕ)
-    (o : Masks pixel mask n) where
+module _ (s : Strides) (start : Bresenham) (j n long : ℕ) (p : Places s start (j + n) long)
+    (level : s .growth ≡ 0) (next : s .ahead + s .back ≡ 1) (some : 0 < n) (fits : n ≤ 320) (mask : List ℕ) (wide : length mask ≡ 640)
+    (mix : Mix) (l m : List ℕ) (e : length l ≡ long) (pixel : ℕ → ℕ) (o : Masks pixel mask n) where
   -- the byte of pixel k, by where the pixel and its mask are found
   mixed-at : (k at from : ℕ) (t : List ℕ) → bresenhamAfter s start (j + k) .place ≡ at → getD mask from 0 ≡ pixel k
       → mixAt mix s start (j + k) (pixel k) t ≡ set t at (mixed mix (getD mask from 0) (getD t at 0))
@@ -145,7 +151,8 @@ module _ (s : Strides) (start : Bresenham) (j n long : ℕ) (p : Places s start 
       let first : start .place - 0 < long = rw (place-left s start (j + n) long p level next f 0) at (p .inside 0 (p .some)) in
       let past : ℕ = start .place + 1 - j in
       let way = to-left (start .place) j n some (left-room s start (j + n) long p level next f) in
-      g ∙ sym (copied-row mix n l (start .place - j - (n - 1)) mask (320 - n) (omega (arith, way .1)) (mask-inside n (length mask) fits wide))
+      g ∙ sym (copied-row mix n l (start .place - j - (n - 1)) mask (320 - n) (omega (arith, way .1))
+      (mask-inside n (length mask) fits wide))
       ∙ ap (λ (i : ℕ). copied (mixed mix) n l i mask (320 - n)) (way .0) ∙ copy-turned-at (mixed mix) n l past mask 320 (way .2) fits
       ∙ sym
       (turn-agree (λ k. mixAt mix s start (j + k) (pixel k))

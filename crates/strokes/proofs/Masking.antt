@@ -4,7 +4,8 @@ use mathlib.Core.Path.{_≡_, refl, ap, sym, subst, _∙_}
 use mathlib.Core.Bool.{Bool, true, false, cond, _&&_}
 use mathlib.Core.List.{List}
 use Prim.Native.Nat.{ℕ, zero, suc, _+_, _-_, _*_, _/_, _%_, _^_, _≤_, _<_, min}
-use native.Mathlib.Nat.{mul-assoc, mul-comm, mul-le-mul, div-add-mod, div-mul-le-self, mod-lt, mod-eq-of-lt, div-eq-of-lt, add-mul-div-right, add-mul-mod-self-right}
+use native.Mathlib.Nat.{mul-assoc, mul-comm, mul-le-mul, div-add-mod, div-mul-le-self, mod-lt, mod-eq-of-lt, div-eq-of-lt}
+use native.Mathlib.Nat.{add-mul-div-right, add-mul-mod-self-right}
 use native.Mathlib.Omega.{arith}
 use borrow.Author.Tests.{leb-true, ltb-true, eqb-true, eqb-false}
 use lib.Bits.{bitAnd, bitXor, differ, and-comm, and-mask, and-lt, xor-lt}
@@ -77,7 +78,8 @@ module _ (c : PatternControl) (p : Pattern) (turns : ℕ) (h : inRange c p ≡ t
       let scale : 0 < c .scale = omega (arith, within) in
       let by-scale : turns * (c .length * c .scale) ≡ turns * c .length * c .scale = sym (mul-assoc turns (c .length) (c .scale)) in
       let repeat : (p .repeat + turns * (c .length * c .scale)) % c .scale ≡ p .repeat =
-      ap (λ (k : ℕ). (p .repeat + k) % c .scale) by-scale ∙ add-mul-mod-self-right (p .repeat) (turns * c .length) (c .scale) ∙ mod-eq-of-lt (within .1) in
+      ap (λ (k : ℕ). (p .repeat + k) % c .scale) by-scale
+      ∙ add-mul-mod-self-right (p .repeat) (turns * c .length) (c .scale) ∙ mod-eq-of-lt (within .1) in
       let gone : (p .repeat + turns * (c .length * c .scale)) / c .scale ≡ turns * c .length =
       ap (λ (k : ℕ). (p .repeat + k) / c .scale) by-scale ∙ add-mul-div-right (p .repeat) (turns * c .length) scale
       ∙ ap (λ (k : ℕ). k + turns * c .length) (div-eq-of-lt (within .1)) ∙ omega arith in
@@ -112,7 +114,8 @@ pub record Masking (d : Dashes) (q : Pattern) (n : ℕ) (mask : List ℕ) (p : P
   pub phase-is : patternOf p ≡ movesOf (d .control) j q
   pub holds : Holds (d .lpat) p
 
-pub masking-start : (d : Dashes) (n : ℕ) (mask : List ℕ) (p : Phase) → length mask ≡ 640 → Holds (d .lpat) p → Masking d (patternOf p) n mask p 0
+pub masking-start : (d : Dashes) (n : ℕ) (mask : List ℕ) (p : Phase) → length mask ≡ 640 → Holds (d .lpat) p
+    → Masking d (patternOf p) n mask p 0
 masking-start d n mask p long h =
     record {
       upto = omega arith;
@@ -127,8 +130,8 @@ bit-byte zero h = refl
 bit-byte (suc zero) h = refl
 bit-byte (suc (suc k)) h = absurd (omega arith)
 
-module _ {d : Dashes} {q : Pattern} {n : ℕ} {mask : List ℕ} {p : Phase} {j b : ℕ} (o : Masking d q n mask p j) (more : j < n) (fits : n ≤ 320)
-    (byte : b ≡ p .bits % 2 * 255) where
+module _ {d : Dashes} {q : Pattern} {n : ℕ} {mask : List ℕ} {p : Phase} {j b : ℕ} (o : Masking d q n mask p j)
+    (more : j < n) (fits : n ≤ 320) (byte : b ≡ p .bits % 2 * 255) where
   mask-byte : b ≡ maskAt d q j
   unfolding patternBit
   mask-byte =
@@ -182,7 +185,9 @@ masking-end {d} {q} {r} {n} {mask} {p} {j} o h e =
 xor-twice : (a b : ℕ) → a < 256 → b < 256 → bitXor (bitXor a b) b ≡ a
 xor-twice a b h g =
     same-bits (bitXor (bitXor a b) b) a (xor-lt 8 (bitXor a b) b (xor-lt 8 a b h g) g) h
-    (λ k l. simp (bit-xor) (back-again (a / 2 ^ k % 2) (b / 2 ^ k % 2) (mod-lt (a / 2 ^ k) (omega arith)) (mod-lt (b / 2 ^ k) (omega arith))))
+    (λ k l.
+    simp bit-xor
+    (back-again (a / 2 ^ k % 2) (b / 2 ^ k % 2) (mod-lt (a / 2 ^ k) (omega arith)) (mod-lt (b / 2 ^ k) (omega arith))))
   where
     back-again : (x y : ℕ) → x < 2 → y < 2 → differ (differ x y) y ≡ x
     back-again x y h g =
@@ -222,7 +227,8 @@ mixes d b e ak af bk bf =
     }
 
 -- a row in dashes, by its mask
-module _ (d : Dashes) (mix : Mix) (w : Mixes d mix) (s : Strides) (c : Bresenham) (q : Pattern) (l : List ℕ) (small : (k : ℕ) → getD l k 0 < 256) where
+module _ (d : Dashes) (mix : Mix) (w : Mixes d mix) (s : Strides) (c : Bresenham) (q : Pattern) (l : List ℕ)
+    (small : (k : ℕ) → getD l k 0 < 256) where
   abbrev drawAt : ℕ → List ℕ → List ℕ
   drawAt k t = mixAt mix s c k (maskAt d q k) t
 
@@ -296,8 +302,8 @@ mixing-turn {mix} {s} {start} {m} {n} {mask} {l₀} {l} {t} {j} {k} o more e as-
           ap pixel whole ∙ r .again (j + i) ∙ o .anew pixel r more i;
     }
 
-pub rounds-of : (d : Dashes) (q : Pattern) (mask : List ℕ) (m : ℕ) → Masks (maskAt d q) mask m → Round (d .control) m → inRange (d .control) q ≡ true
-    → Rounds (maskAt d q) mask m
+pub rounds-of : (d : Dashes) (q : Pattern) (mask : List ℕ) (m : ℕ) → Masks (maskAt d q) mask m → Round (d .control) m
+    → inRange (d .control) q ≡ true → Rounds (maskAt d q) mask m
 rounds-of d q mask m o r range =
     record {
       first = o;

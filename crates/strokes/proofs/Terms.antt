@@ -3,7 +3,8 @@
 use mathlib.Core.Path.{_≡_, refl, ap, sym, _∙_}
 use mathlib.Core.Logic.{⊎-elim, inl, inr}
 use Prim.Native.Nat.{ℕ, zero, suc, _+_, _-_, _*_, _/_, _%_, _≤_, _<_, min, max}
-use native.Mathlib.Nat.{add-mul, mul-add, mul-suc, mul-assoc, mul-left-comm, one-mul, div-add-mod, mod-lt, div-le-self, mul-le-mul, mul-le-mul-left, mul-le-mul-right}
+use native.Mathlib.Nat.{add-mul, mul-add, mul-suc, mul-assoc, mul-left-comm, one-mul, mul-le-mul, mul-le-mul-left, mul-le-mul-right}
+use native.Mathlib.Nat.{div-add-mod, mod-lt, div-le-self}
 use native.Mathlib.Omega.{arith}
 use borrow.Author.Tests.{leb-true, leb-false, ltb-true, ltb-false}
 use lib.Dec.{leb, ltb}
@@ -151,17 +152,36 @@ module _ (n i a b : ℕ) (g : Stepper) (x : Axis n a b) (l : i ≤ n) (o : On n 
       let twice : 2 * n * turns ≡ 2 * (n * turns) = mul-assoc 2 n turns in
       (omega (arith, div-add-mod (grown i g) (2 * n), grew, twice), mod-lt (grown i g) (omega (arith, x .some)))
 
-  down-room : Down n (exact n 0 a b) a b g → turns ≤ g .coordinate
-  down-room w =
-      let way : i * distance a b ≡ i * (a - b) = ap (λ (k : ℕ). i * k) (omega (arith, w .order)) in
-      le-of-not-lt
-      (λ h. omega (arith, x .some, divided, way, w .term, first-exact n a b, exact-down n i a b l (w .order), below n (g .coordinate) turns h))
+  -- how far the coordinate goes, by what an axis steps by
+  gone : (u v : ℕ) → g .up ≡ u → g .down ≡ v → (g .up * turns ≡ u * turns) × (g .down * turns ≡ v * turns)
+  gone u v e f = (ap (λ (k : ℕ). k * turns) e, ap (λ (k : ℕ). k * turns) f)
 
-  up-by : g .up ≡ 1 → g .down ≡ 0 → (g .up * turns ≡ turns) × (g .down * turns ≡ 0)
-  up-by e f = (ap (λ (k : ℕ). k * turns) e ∙ omega arith, ap (λ (k : ℕ). k * turns) f ∙ omega arith)
+  abbrev there : ℕ
+  there = g .coordinate + g .up * turns - g .down * turns
 
-  down-by : g .up ≡ 0 → g .down ≡ 1 → (g .up * turns ≡ 0) × (g .down * turns ≡ turns)
-  down-by e f = (ap (λ (k : ℕ). k * turns) e ∙ omega arith, ap (λ (k : ℕ). k * turns) f ∙ omega arith)
+  up-term : Up n (exact n 0 a b) a b g → 2 * (n * there) + grown i g % (2 * n) + 1 ≡ 2 * exact n i a b + n
+  up-term w =
+      let on : there ≡ g .coordinate + turns = omega (arith, gone 1 0 (w .up-is) (w .down-is)) in
+      let whole : n * there ≡ n * g .coordinate + n * turns = ap (λ (k : ℕ). n * k) on ∙ mul-add n (g .coordinate) turns in
+      let way : i * distance a b ≡ i * (b - a) = ap (λ (k : ℕ). i * k) (omega (arith, w .order)) in
+      omega (arith, whole, way, divided .0, w .term, first-exact n a b, exact-up n i a b l (w .order))
+
+  module _ (w : Down n (exact n 0 a b) a b g) where
+    fall : i * distance a b ≡ i * (a - b)
+    fall = ap (λ (k : ℕ). i * k) (omega (arith, w .order))
+
+    down-room : turns ≤ g .coordinate
+    down-room =
+        le-of-not-lt
+        (λ h.
+        let more = below n (g .coordinate) turns h in
+        omega (arith, x .some, divided, fall, w .term, first-exact n a b, exact-down n i a b l (w .order), more))
+
+    down-term : 2 * (n * there) + n ≡ 2 * exact n i a b + grown i g % (2 * n)
+    down-term =
+        let back : there + turns ≡ g .coordinate = omega (arith, gone 0 1 (w .up-is) (w .down-is), down-room) in
+        let whole : n * there + n * turns ≡ n * g .coordinate = sym (mul-add n there turns) ∙ ap (λ (k : ℕ). n * k) back in
+        omega (arith, whole, fall, divided .0, w .term, first-exact n a b, exact-down n i a b l (w .order))
 
   pub can-leap : Leaps (2 * n) i g
   can-leap =
@@ -170,7 +190,8 @@ module _ (n i a b : ℕ) (g : Stepper) (x : Axis n a b) (l : i ≤ n) (o : On n 
         room = on-room n 0 a b g o x (omega arith);
         pixels-few = omega (arith, x .steps-few);
         down-enough =
-            ⊎-elim (λ w. omega (arith, up-by (w .up-is) (w .down-is))) (λ w. omega (arith, down-by (w .up-is) (w .down-is), down-room w)) (o .way);
+            ⊎-elim (λ w. omega (arith, gone 1 0 (w .up-is) (w .down-is)))
+            (λ w. omega (arith, gone 0 1 (w .up-is) (w .down-is), down-room w)) (o .way);
       }
 
   pub leaps-on : (r : Stepper) → r ≡ steppedBy (2 * n) i g → On n i a b r
@@ -183,21 +204,8 @@ module _ (n i a b : ℕ) (g : Stepper) (x : Axis n a b) (l : i ≤ n) (o : On n 
         grows = o .grows;
         way =
             ⊎-elim
-            (λ w.
-            let by = up-by (w .up-is) (w .down-is) in
-            let on : g .coordinate + g .up * turns - g .down * turns ≡ g .coordinate + turns = omega (arith, by) in
-            let whole : n * (g .coordinate + g .up * turns - g .down * turns) ≡ n * g .coordinate + n * turns =
-            ap (λ (k : ℕ). n * k) on ∙ mul-add n (g .coordinate) turns in
-            let way : i * distance a b ≡ i * (b - a) = ap (λ (k : ℕ). i * k) (omega (arith, w .order)) in
-            inl (record { order = w .order; up-is = w .up-is; down-is = w .down-is; term = omega (arith, whole, way, divided .0, w .term, first-exact n a b, exact-up n i a b l (w .order)) }))
-            (λ w.
-            let by = down-by (w .up-is) (w .down-is) in
-            let room = down-room w in
-            let back : g .coordinate + g .up * turns - g .down * turns + turns ≡ g .coordinate = omega (arith, by, room) in
-            let whole : n * (g .coordinate + g .up * turns - g .down * turns) + n * turns ≡ n * g .coordinate =
-            sym (mul-add n (g .coordinate + g .up * turns - g .down * turns) turns) ∙ ap (λ (k : ℕ). n * k) back in
-            let way : i * distance a b ≡ i * (a - b) = ap (λ (k : ℕ). i * k) (omega (arith, w .order)) in
-            inr (record { order = w .order; up-is = w .up-is; down-is = w .down-is; term = omega (arith, whole, way, divided .0, w .term, first-exact n a b, exact-down n i a b l (w .order)) }))
+            (λ w. inl (record { order = w .order; up-is = w .up-is; down-is = w .down-is; term = up-term w }))
+            (λ w. inr (record { order = w .order; up-is = w .up-is; down-is = w .down-is; term = down-term w }))
             (o .way);
       })
 

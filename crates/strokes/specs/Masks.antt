@@ -6,6 +6,7 @@ use Prim.Native.Nat.{ℕ, _+_, _-_, _≤_, _<_}
 use lib.Dec.{leb}
 use lib.ListN.{length, getD, set}
 use Rattle.entries.specs.declared.fields.PatternControl.{PatternControl}
+use Rattle.lemmas.specs.Turns.{inTurn}
 use Rattle.raster.specs.Selectors.{drawn}
 use Rattle.registers.specs.Patterns.{patternBit, movesOf, inRange}
 use Rattle.registers.specs.declared.dashes.Pattern.{Pattern}
@@ -48,3 +49,13 @@ pub record Mixes (d : Dashes) (mix : Mix) : Type 0 where
 abbrev pub mixAt : Mix → Strides → Bresenham → ℕ → ℕ → List ℕ → List ℕ
 mixAt mix s c k source l =
     set l (bresenhamAfter s c k .place) (mixed mix source (getD l (bresenhamAfter s c k .place) 0))
+
+-- Pixels j to j + n - 1 of a course, each mixed with its byte of the mask.
+abbrev pub MixedFrom : Mix → Strides → Bresenham → ℕ → ℕ → List ℕ → List ℕ → List ℕ → Type 0
+MixedFrom mix s c j n mask before after =
+    (pixel : ℕ → ℕ) → Masks pixel mask n → after ≡ inTurn (λ k. mixAt mix s c (j + k) (pixel k)) n before
+
+-- n pixels of a course, by rounds of m.
+abbrev pub MixedRound : Mix → Strides → Bresenham → ℕ → ℕ → List ℕ → List ℕ → List ℕ → Type 0
+MixedRound mix s c m n mask before after =
+    (pixel : ℕ → ℕ) → Rounds pixel mask m → after ≡ inTurn (λ k. mixAt mix s c k (pixel k)) n before

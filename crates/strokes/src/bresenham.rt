@@ -8,7 +8,8 @@ ghost use Rattle.geometry.specs.Coordinates.{origin};
 ghost use Rattle.strokes.specs.Strokes.{dashed};
 ghost use Rattle.lemmas.specs.Turns.{inTurn};
 ghost use Rattle.strokes.specs.Tracers.{Room, RoomBoth};
-ghost use Rattle.strokes.specs.Bresenham.{Moves, moved, courseBy, courseOf, Places, FromOrigin, plotAt, plotDashAt, Stretch, plotOn, plotDashOn};
+ghost use Rattle.strokes.specs.Bresenham.{Moves, moved, courseBy, courseOf, Places, InRow, FromOrigin};
+ghost use Rattle.strokes.specs.Bresenham.{plotAt, plotDashAt, Stretch, plotOn, plotDashOn};
 use crate::Dashes;
 use crate::masks::dash_rounds;
 use crate::masks::goes_round;
@@ -161,7 +162,7 @@ fn store_places(buffer: &mut [u8], pen: Pen, s: Strides, start: Bresenham, n: us
 
 // The same as one row, where each place is next to the one before it.
 fn fill_places(buffer: &mut [u8], pen: Pen, s: Strides, start: Bresenham, n: usize)
-    requires { ⌜ Places s start n (length (now buffer)) × (s .growth ≡ 0) × (s .ahead + s .back ≡ 1) ⌝ }
+    requires { ⌜ Places s start n (length (now buffer)) × InRow s ⌝ }
     ensures { λ _. ⌜ now (buffer .exit) ≡ inTurn (plotAt pen s start) n (now (buffer .entry)) ⌝ }
 {
     if s.back == 0 {

@@ -1,12 +1,12 @@
 // Long rows of dashes: the pattern as a mask, a byte a pixel, by which the row is mixed round after round.
 ghost use mathlib.Core.Path.{_≡_};
 ghost use mathlib.Core.Bool.{true};
-ghost use Prim.Native.Nat.{ℕ, _+_, _≤_, _<_};
+ghost use Prim.Native.Nat.{_+_, _≤_, _<_};
 ghost use lib.ListN.{length};
 ghost use Rattle.lemmas.specs.Turns.{inTurn};
 ghost use Rattle.strokes.specs.Strokes.{dashed};
-ghost use Rattle.strokes.specs.Bresenham.{Places, plotDashAt};
-ghost use Rattle.strokes.specs.Masks.{goesRound, Round, maskAt, Masks, Rounds, Mixes, mixAt};
+ghost use Rattle.strokes.specs.Bresenham.{Places, InRow, plotDashAt};
+ghost use Rattle.strokes.specs.Masks.{goesRound, Round, maskAt, Masks, Mixes, MixedFrom, MixedRound};
 use crate::Dashes;
 use crate::bresenham::Bresenham;
 use crate::bresenham::Strides;
@@ -35,7 +35,7 @@ fn round(c: PatternControl) -> usize
     (once + 31) / once * once
 }
 
-// The pattern's first n pixels, from the middle of the mask to the right, and to the left.
+// The pattern's first n pixels, from the middle of the mask to the right, and to the left. A round has 287 pixels at most.
 fn put_mask(mask: &mut [u8], d: Dashes, start: Pattern, n: usize)
     requires { ⌜ (length (now mask) ≡ 640) × (n ≤ 320) ⌝ }
     ensures { λ _. ⌜ Masks (maskAt d start) (now (mask .exit)) n ⌝ }
@@ -79,8 +79,8 @@ fn mix_places(
     j: usize,
     n: usize,
 )
-    requires { ⌜ Places s start (j + n) (length (now buffer)) × (s .growth ≡ 0) × (s .ahead + s .back ≡ 1) × (0 < n) × (n ≤ 320) × (length (now mask) ≡ 640) ⌝ }
-    ensures { λ _. ⌜ ((pixel : ℕ → ℕ) → Masks pixel (now (mask .entry)) n → now (buffer .exit) ≡ inTurn (λ k. mixAt mix s start (j + k) (pixel k)) n (now (buffer .entry))) ⌝ }
+    requires { ⌜ Places s start (j + n) (length (now buffer)) × InRow s × (0 < n) × (n ≤ 320) × (length (now mask) ≡ 640) ⌝ }
+    ensures { λ _. ⌜ MixedFrom mix s start j n (now (mask .entry)) (now (buffer .entry)) (now (buffer .exit)) ⌝ }
 {
     if s.back == 0 {
         copy_row(buffer, start.place + j, mask, 320, n, mix);
@@ -99,8 +99,8 @@ fn mix_rounds(
     m: usize,
     n: usize,
 )
-    requires { ⌜ Places s start n (length (now buffer)) × (s .growth ≡ 0) × (s .ahead + s .back ≡ 1) × (0 < m) × (m ≤ 320) × (length (now mask) ≡ 640) ⌝ }
-    ensures { λ _. ⌜ ((pixel : ℕ → ℕ) → Rounds pixel (now (mask .entry)) m → now (buffer .exit) ≡ inTurn (λ k. mixAt mix s start k (pixel k)) n (now (buffer .entry))) ⌝ }
+    requires { ⌜ Places s start n (length (now buffer)) × InRow s × (0 < m) × (m ≤ 320) × (length (now mask) ≡ 640) ⌝ }
+    ensures { λ _. ⌜ MixedRound mix s start m n (now (mask .entry)) (now (buffer .entry)) (now (buffer .exit)) ⌝ }
 {
     let mut j: usize = 0;
     while j < n {
@@ -119,7 +119,7 @@ pub(crate) fn dash_rounds(
     start: Bresenham,
     n: usize,
 ) -> Pattern
-    requires { ⌜ Places s start n (length (now buffer)) × (s .growth ≡ 0) × (s .ahead + s .back ≡ 1) × (goesRound (dashes .control) pattern n ≡ true) ⌝ }
+    requires { ⌜ Places s start n (length (now buffer)) × InRow s × (goesRound (dashes .control) pattern n ≡ true) ⌝ }
     ensures { λ r. ⌜ dashed (now (buffer .exit)) r ≡ inTurn (plotDashAt dashes s start) n (dashed (now (buffer .entry)) pattern) ⌝ }
 {
     let m = round(dashes.control);

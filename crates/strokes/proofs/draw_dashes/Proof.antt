@@ -64,7 +64,8 @@ returns-2 : tie.Need-returns-2
 returns-2 c =
     let t = c .before in
     let q = t .before .before in
-    dashes-fit _ _ _ _ _ _ _ _ _ (fit (q .before .before .before) .whole) (hidden-dashes _ _ _ _ _ _ (seen q) _ _ _ _ (t .if3 .taken) (c .after .ensures))
+    dashes-fit _ _ _ _ _ _ _ _ _ (fit (q .before .before .before) .whole)
+    (hidden-dashes _ _ _ _ _ _ (seen q) _ _ _ _ (t .if3 .taken) (c .after .ensures))
 
 sub-after : tie.Need-sub-after
 sub-after c = omega (arith, seen (c .before .before .before) .from-first)

@@ -81,7 +81,8 @@ returns-3 c =
     let q = e .before .before in
     let f = fit (q .before .before) in
     stroke-fit _ _ _ _ _ _ _ _ _ (f .whole)
-    (visible-pixels _ _ _ _ _ _ (seen q) _ (f .steps-in) (f .pixels-in) (e .if3 .left) (t .tracer-at .ensures) _ _ _ _ (d .draw-visible .ensures))
+    (visible-pixels _ _ _ _ _ _ (seen q) _ (f .steps-in) (f .pixels-in) (e .if3 .left) (t .tracer-at .ensures)
+    _ _ _ _ (d .draw-visible .ensures))
 
 pub draw-line-spec : {M : Type 1} → statement M
 draw-line-spec =

@@ -1,4 +1,4 @@
--- `strokes::bresenham::dash_visible` meets its contract. The course's places lie in the buffer (`places`) and are those of
+-- `strokes::bresenham::dash_visible` meets its contract. The course's places lie in the buffer (`course-places`) and are those of
 -- the tracer's pixels (`plot-dashes-on`).
 -- Assumes nothing.
 use mathlib.Core.Path.{sym, _∙_}
@@ -6,8 +6,8 @@ use borrow.Author.Needs.{needs}
 use lib.ListN.{length}
 use Rattle.lemmas.proofs.Booleans.{and-left, and-right}
 use Rattle.strokes.specs.Bresenham.{Places}
-use Rattle.strokes.proofs.Courses.{first-room, first-from-origin, places, stride-sum, plot-dashes-on}
-use Rattle.strokes.proofs.Levels.{level-test}
+use Rattle.strokes.proofs.Courses.{first-room, first-from-origin, course-places, stride-sum, plot-dashes-on}
+use Rattle.strokes.proofs.Levels.{in-row}
 use Rattle.strokes.proofs.bresenham.dash_visible.Statement.{statement}
 use Rattle.strokes.proofs.bresenham.dash_visible.Tie as tie
 
@@ -15,8 +15,7 @@ held : (c : tie.After-course-of)
     → let a = c .before .before .args in
     let r = c .course-of .result in
     Places (r .strides) (r .start) (a .n) (length (a .buffer .now))
-held c =
-    rw (c .course-of .ensures) (places _ _ _ _ (c .before .before .pre) (search needs))
+held c = course-places _ _ _ _ (c .before .before .pre) _ (c .course-of .ensures) (search needs)
 
 course-of-requires : tie.Need-course-of-requires
 course-of-requires c κs =
@@ -38,8 +37,8 @@ dash-rounds-requires c κs =
     let r = g .before in
     let is = r .is-row .result in
     let goes = g .goes-round .result in
-    let row = level-test _ _ (sym (r .is-row .ensures) ∙ and-left is goes (t .if1 .taken)) in
-    (held (r .before .before), row .0, row .1, sym (g .goes-round .ensures) ∙ and-right is goes (t .if1 .taken))
+    let row = in-row _ (sym (r .is-row .ensures) ∙ and-left is goes (t .if1 .taken)) in
+    (held (r .before .before), row, sym (g .goes-round .ensures) ∙ and-right is goes (t .if1 .taken))
 
 same-length : tie.Need-same-length
 same-length c = search needs

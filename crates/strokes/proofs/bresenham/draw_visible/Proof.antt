@@ -1,12 +1,12 @@
--- `strokes::bresenham::draw_visible` meets its contract. The course's places lie in the buffer (`places`) and are those of
+-- `strokes::bresenham::draw_visible` meets its contract. The course's places lie in the buffer (`course-places`) and are those of
 -- the tracer's pixels, so that what each callee plots on the course is plotted at them (`plots-on`).
 -- Assumes nothing.
 use mathlib.Core.Path.{sym, _∙_}
 use borrow.Author.Needs.{needs}
 use lib.ListN.{length}
 use Rattle.strokes.specs.Bresenham.{Places}
-use Rattle.strokes.proofs.Courses.{first-room, first-from-origin, places, stride-sum, plots-on}
-use Rattle.strokes.proofs.Levels.{level-test}
+use Rattle.strokes.proofs.Courses.{first-room, first-from-origin, course-places, stride-sum, plots-on}
+use Rattle.strokes.proofs.Levels.{in-row}
 use Rattle.strokes.proofs.bresenham.draw_visible.Statement.{statement}
 use Rattle.strokes.proofs.bresenham.draw_visible.Tie as tie
 
@@ -14,8 +14,7 @@ held : (c : tie.After-course-of)
     → let a = c .before .before .args in
     let r = c .course-of .result in
     Places (r .strides) (r .start) (a .n) (length (a .buffer .now))
-held c =
-    rw (c .course-of .ensures) (places _ _ _ _ (c .before .before .pre) (search needs))
+held c = course-places _ _ _ _ (c .before .before .pre) _ (c .course-of .ensures) (search needs)
 
 course-of-requires : tie.Need-course-of-requires
 course-of-requires c κs =
@@ -31,8 +30,7 @@ fill-places-requires : tie.Need-fill-places-requires
 fill-places-requires c κs =
     let t = c .before in
     let r = t .before in
-    let row = level-test _ _ (sym (r .is-row .ensures) ∙ t .if1 .taken) in
-    (held (r .before .before), row .0, row .1)
+    (held (r .before .before), in-row _ (sym (r .is-row .ensures) ∙ t .if1 .taken))
 
 same-length : tie.Need-same-length
 same-length c = search needs

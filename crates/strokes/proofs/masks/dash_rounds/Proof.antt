@@ -8,7 +8,7 @@ use Rattle.strokes.proofs.masks.dash_rounds.Statement.{statement}
 use Rattle.strokes.proofs.masks.dash_rounds.Tie as tie
 
 goes : (c : tie.Start) → let a = c .args in Goes (a .dashes .control) (a .pattern) (a .n)
-goes c = let a = c .args in goes-of (a .dashes .control) (a .pattern) (a .n) (c .pre .3)
+goes c = let a = c .args in goes-of (a .dashes .control) (a .pattern) (a .n) (c .pre .2)
 
 round-requires : tie.Need-round-requires
 round-requires c κs = goes (c .before) .sizes
@@ -47,8 +47,9 @@ returns c =
     let r = x .before in
     let k = r .before in
     let s = k .before in
+    let rounds = rounds-of (s .args .dashes) (s .args .pattern) _ _ (u .put-mask .ensures) (r .round .ensures) (goes s .range) in
     dashes-mixed _ _ (x .mix-of .ensures) _ _ _ _ (λ m. omega (arith, k .slice-known .given m)) _ _ _
-    (d .mix-rounds .ensures _ (rounds-of (s .args .dashes) (s .args .pattern) _ _ (u .put-mask .ensures) (r .round .ensures) (goes s .range))) (c .after .ensures)
+    (d .mix-rounds .ensures _ rounds) (c .after .ensures)
 
 pub dash-rounds-spec : {M : Type 1} → statement M
 dash-rounds-spec =

@@ -19,7 +19,7 @@ add-copy-row : tie.Need-add-copy-row
 add-copy-row c =
     let t = c .before .before in
     let p = start t .pre in
-    omega (arith, right-room _ _ _ _ (p .0) (p .1) (p .2) (t .if1 .taken), p .3)
+    omega (arith, right-room _ _ _ _ (p .0) (p .1 .level) (p .1 .next) (t .if1 .taken), p .2)
 
 copy-row-requires : tie.Need-copy-row-requires
 copy-row-requires c κs = search needs
@@ -32,19 +32,20 @@ returns c =
     let d = c .before .before in
     let t = d .before .before .before in
     let p = start t .pre in
-    λ pixel o. mix-right _ _ _ _ _ (p .0) (p .1) (p .2) (p .3) (p .4) _ (p .5) _ _ _ refl pixel o (t .if1 .taken) (d .copy-row .ensures)
+    λ pixel o.
+    mix-right _ _ _ _ _ (p .0) (p .1 .level) (p .1 .next) (p .2) (p .3) _ (p .4) _ _ _ refl pixel o (t .if1 .taken) (d .copy-row .ensures)
 
 room : (c : tie.Else1) → let a = start-left c .args in a .j + a .n - 1 ≤ a .start .place
-room c = let p = start-left c .pre in left-room _ _ _ _ (p .0) (p .1) (p .2) (c .if1 .left)
+room c = let p = start-left c .pre in left-room _ _ _ _ (p .0) (p .1 .level) (p .1 .next) (c .if1 .left)
 
 sub-copy-row : tie.Need-sub-copy-row
-sub-copy-row c = let e = c .before .before in omega (arith, room e, start-left e .pre .3)
+sub-copy-row c = let e = c .before .before in omega (arith, room e, start-left e .pre .2)
 
 sub-copy-row-2 : tie.Need-sub-copy-row-2
 sub-copy-row-2 c = search needs
 
 sub-copy-row-3 : tie.Need-sub-copy-row-3
-sub-copy-row-3 c = let e = c .before .before in omega (arith, room e, start-left e .pre .3)
+sub-copy-row-3 c = let e = c .before .before in omega (arith, room e, start-left e .pre .2)
 
 sub-copy-row-4 : tie.Need-sub-copy-row-4
 sub-copy-row-4 c = search needs
@@ -60,7 +61,8 @@ returns-2 c =
     let d = c .before .before in
     let e = d .before .before .before in
     let p = start-left e .pre in
-    λ pixel o. mix-left _ _ _ _ _ (p .0) (p .1) (p .2) (p .3) (p .4) _ (p .5) _ _ _ refl pixel o (e .if1 .left) (d .copy-row2 .ensures)
+    λ pixel o.
+    mix-left _ _ _ _ _ (p .0) (p .1 .level) (p .1 .next) (p .2) (p .3) _ (p .4) _ _ _ refl pixel o (e .if1 .left) (d .copy-row2 .ensures)
 
 pub mix-places-spec : {M : Type 1} → statement M
 mix-places-spec =

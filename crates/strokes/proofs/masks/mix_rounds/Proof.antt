@@ -30,13 +30,13 @@ mix-places-requires c κs =
     let i = k .before in
     let l = i .before in
     let p = l .before .before .before .pre in
-    let run = k .min .ensures in (
-      rw (l .loop .inv .as-long) (fewer-places (p .0) (omega (arith, i .loop-test .taken)) (omega (arith, i .loop-test .taken, run))),
+    let run = k .min .ensures in
+    let more = i .loop-test .taken in (
+      rw (l .loop .inv .as-long) (fewer-places (p .0) (omega (arith, more)) (omega (arith, more, run))),
       p .1,
-      p .2,
-      omega (arith, i .loop-test .taken, run, p .3),
-      omega (arith, run, p .4),
-      p .5,
+      omega (arith, more, run, p .2),
+      omega (arith, run, p .3),
+      p .4,
     )
 
 add-j : tie.Need-add-j Inv-loop μ-loop
@@ -48,7 +48,7 @@ loop-less : tie.Need-loop-less Inv-loop μ-loop
 loop-less c =
     let k = c .before .before .before .before in
     let i = k .before in
-    omega (arith, k .min .ensures, i .loop-test .taken, i .before .before .before .before .pre .3)
+    omega (arith, k .min .ensures, i .loop-test .taken, i .before .before .before .before .pre .2)
 
 loop-again : tie.Need-loop-again Inv-loop μ-loop
 loop-again c =
