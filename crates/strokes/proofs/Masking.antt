@@ -50,7 +50,7 @@ pub record Goes (c : PatternControl) (p : Pattern) (n : ℕ) : Type 0 where
 
 pub goes-of : (c : PatternControl) (p : Pattern) (n : ℕ) → goesRound c p n ≡ true → Goes c p n
 goes-of c p n h =
-    let a = leb 64 n in
+    let a = leb (64 * c .scale) n in
     let b = leb n 65536 in
     let l = leb (c .length) 32 in
     let s = leb (c .scale) 8 in

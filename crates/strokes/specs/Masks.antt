@@ -2,7 +2,7 @@
 use mathlib.Core.Path.{_≡_}
 use mathlib.Core.Bool.{Bool, true, cond, _&&_}
 use mathlib.Core.List.{List}
-use Prim.Native.Nat.{ℕ, _+_, _-_, _≤_, _<_}
+use Prim.Native.Nat.{ℕ, _+_, _-_, _*_, _≤_, _<_}
 use lib.Dec.{leb}
 use lib.ListN.{length, getD, set}
 use Rattle.entries.specs.declared.fields.PatternControl.{PatternControl}
@@ -19,7 +19,7 @@ use Rattle.strokes.specs.declared.bresenham.Bresenham.{Bresenham}
 use Rattle.strokes.specs.declared.bresenham.Strides.{Strides}
 
 abbrev pub goesRound : PatternControl → Pattern → ℕ → Bool
-goesRound c p n = leb 64 n && leb n 65536 && leb (c .length) 32 && leb (c .scale) 8 && inRange c p
+goesRound c p n = leb (64 * c .scale) n && leb n 65536 && leb (c .length) 32 && leb (c .scale) 8 && inRange c p
 
 -- After m pixels the pattern is where it was.
 pub record Round (c : PatternControl) (m : ℕ) : Type 0 where

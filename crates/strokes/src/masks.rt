@@ -19,11 +19,15 @@ use registers::Pattern;
 use rows::Mix;
 use rows::copy_row;
 
-// Whether a row is long enough for rounds, and its pattern short enough.
+// Whether a row has at least two rounds of its pattern, and is worth a mask.
 pub(crate) fn goes_round(c: PatternControl, p: Pattern, n: usize) -> bool
     ensures { λ r. ⌜ r ≡ goesRound c p n ⌝ }
 {
-    (64 <= n) & (n <= 65536) & (c.length <= 32) & (c.scale <= 8) & p.in_range(c)
+    (64 * (c.scale as usize) <= n)
+        & (n <= 65536)
+        & (c.length <= 32)
+        & (c.scale <= 8)
+        & p.in_range(c)
 }
 
 // Pixels, at least 32, after which a pattern is where it was.

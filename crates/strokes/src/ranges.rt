@@ -81,7 +81,7 @@ fn visible(w: Window, p: Point) -> bool
     (w.left <= p.x) & (p.x < w.right) & (w.top <= p.y) & (p.y < w.bottom)
 }
 
-// Whether both ends of a line are visible in a window.
+// Whether both ends of a line are visible in a window, and so all of it.
 pub(crate) fn ends_visible(w: Window, from: u32, to: u32) -> bool
     ensures { λ r. ⌜ r ≡ (inWindow w (pointOf from) && inWindow w (pointOf to)) ⌝ }
 {
@@ -90,7 +90,7 @@ pub(crate) fn ends_visible(w: Window, from: u32, to: u32) -> bool
     visible(w, a) & visible(w, b)
 }
 
-// Of n pixels of a line from pixel `first` on, those that are visible in a window.
+// Of n pixels of a line from pixel `first` on, those that are visible in a window; for lines with a hidden end.
 pub(crate) fn visible_range(w: Window, from: u32, to: u32, first: usize, n: usize) -> Range
     requires { ⌜ (0 < stepsOf (pointOf from) (pointOf to)) × (first + n ≤ stepsOf (pointOf from) (pointOf to) + 1) ⌝ }
     ensures { λ r. ⌜ Visible w (pointOf from) (pointOf to) first n r ⌝ }
