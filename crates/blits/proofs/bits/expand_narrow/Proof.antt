@@ -1,10 +1,7 @@
--- Eight pixels, and for 16 eight more, each time by `expanded-more`.
+-- Eight pixels (`eight-only`), and for 16 eight more (`eight-more`).
 use borrow.Author.Needs.{needs}
-use mathlib.Core.Path.{refl, sym}
-use Prim.Native.Nat.{_+_, _*_}
 use native.Mathlib.Omega.{arith}
-use Rattle.lemmas.proofs.Sweeps.{sweep-start}
-use Rattle.blits.proofs.Expanded.{expanded-more, eight-of, only-eight}
+use Rattle.blits.proofs.Expanded.{eight-of, eight-only, eight-more}
 use Rattle.blits.proofs.bits.expand_narrow.Statement.{statement}
 use Rattle.blits.proofs.bits.expand_narrow.Tie as tie
 
@@ -41,12 +38,10 @@ returns c =
     let told = had-second .before .before in
     let first = told .before .before .before in
     let had-first = first .before in
-    let a = had-first .before .before .before .before .args in
-    let from = 8 * a .byte + a .first in
-    expanded-more (a .s) 8 8 (a .n) (a .buffer .now) _ _ (a .at) (a .source .now) from _ _ (8 * (a .byte + 1) + a .first) (sym (told .if1 .taken)) refl (omega arith)
-    (expanded-more (a .s) 0 8 8 (a .buffer .now) _ _ (a .at) (a .source .now) from _ _ _ refl (omega arith) (omega arith) (sweep-start _ _ _) (first .draw-eight .ensures)
-    (had-first .bits-at .ensures))
-    (second .draw-eight2 .ensures) (had-second .bits-at2 .ensures)
+    let start = had-first .before .before .before .before in
+    let a = start .args in
+    eight-more (a .s) (a .n) (a .buffer .now) (a .at) (a .source .now) (a .byte) (a .first) (start .pre .0) _ _ (first .draw-eight .kept .0) (first .draw-eight .ensures)
+    (had-first .bits-at .ensures) (told .if1 .taken) _ _ (second .draw-eight2 .kept .0) (second .draw-eight2 .ensures) (had-second .bits-at2 .ensures)
 
 same-length-2 : tie.Need-same-length-2
 same-length-2 c = search needs
@@ -57,8 +52,8 @@ returns-2 c =
     let had = first .before in
     let start = had .before .before .before .before in
     let a = start .args in
-    expanded-more (a .s) 0 8 (a .n) (a .buffer .now) _ _ (a .at) (a .source .now) (8 * a .byte + a .first) _ _ _ (only-eight (a .n) (start .pre .0) (c .if1 .left)) (omega arith) (omega arith)
-    (sweep-start _ _ _) (first .draw-eight .ensures) (had .bits-at .ensures)
+    eight-only (a .s) (a .n) (a .buffer .now) (a .at) (a .source .now) (a .byte) (a .first) (start .pre .0) _ _ (first .draw-eight .kept .0) (first .draw-eight .ensures)
+    (had .bits-at .ensures) (c .if1 .left)
 
 pub expand-narrow-spec : {M : Type 1} → statement M
 expand-narrow-spec =
