@@ -10,6 +10,7 @@ use crate::eights::bits_at;
 use crate::eights::draw_bits;
 use crate::eights::draw_block;
 use crate::eights::draw_eight;
+use crate::eights::draw_glyph_byte;
 use crate::eights::draw_some;
 use stipples::Inks;
 use stipples::Stipple;
@@ -56,9 +57,9 @@ pub(crate) fn expand_narrow(
     requires { ⌜ ((n ≡ 8) ⊎ (n ≡ 16)) × (inks ≡ inksOf s) × (at + n ≤ length (now buffer)) × BitsFit byte first n (length (now source)) ⌝ }
     ensures { λ _. ⌜ now (buffer .exit) ≡ expanded s n (now (buffer .entry)) at (now (source .entry)) (8 * byte + first) ⌝ }
 {
-    draw_eight(buffer, at, bits_at(source, byte, first, 8), s, inks);
+    draw_glyph_byte(buffer, at, bits_at(source, byte, first, 8), s, inks);
     if n == 16 {
-        draw_eight(buffer, at + 8, bits_at(source, byte + 1, first, 8), s, inks);
+        draw_glyph_byte(buffer, at + 8, bits_at(source, byte + 1, first, 8), s, inks);
     }
 }
 
@@ -111,9 +112,9 @@ pub(crate) fn narrow_apart(
     requires { ⌜ ((n ≡ 8) ⊎ (n ≡ 16)) × (inks ≡ inksOf s) × (at + n ≤ length (now buffer)) × BitsFit byte first n (length (now buffer)) × Apart at byte n ⌝ }
     ensures { λ _. ⌜ ((back : Bool) → now (buffer .exit) ≡ cond back (expandedBack s n (now (buffer .entry)) at (8 * byte + first)) (expandedWithin s n (now (buffer .entry)) at (8 * byte + first))) ⌝ }
 {
-    draw_eight(buffer, at, bits_at(buffer, byte, first, 8), s, inks);
+    draw_glyph_byte(buffer, at, bits_at(buffer, byte, first, 8), s, inks);
     if n == 16 {
-        draw_eight(buffer, at + 8, bits_at(buffer, byte + 1, first, 8), s, inks);
+        draw_glyph_byte(buffer, at + 8, bits_at(buffer, byte + 1, first, 8), s, inks);
     }
 }
 
