@@ -169,7 +169,8 @@ only-eight n (inr e) h = absurd (h e)
 
 -- eight are drawn, which left t
 module _ (s : Stipple) (n : ℕ) (l : List ℕ) (at : ℕ) (source : List ℕ) (byte first : ℕ) (two : (n ≡ 8) ⊎ (n ≡ 16)) (t : List ℕ) (bits : ℕ)
-    (long : length t ≡ length l) (drawn : t ≡ byByte s 8 l at bits) (read : (j : ℕ) → j < 8 → bitIn j bits ≡ bitAt source (8 * byte + first + j)) where
+    (long : length t ≡ length l) (drawn : t ≡ byByte s 8 l at bits)
+    (read : (j : ℕ) → j < 8 → bitIn j bits ≡ bitAt source (8 * byte + first + j)) where
   pub eight-drawn : Expanding s n l at source byte first t 8 (byte + 1)
   eight-drawn =
       record {
@@ -177,7 +178,8 @@ module _ (s : Stipple) (n : ℕ) (l : List ℕ) (at : ℕ) (source : List ℕ) (
         long = long;
         here = omega arith;
         drawn =
-            expanded-more s 0 8 8 l l t at source (8 * byte + first) bits at (8 * byte + first) refl (omega arith) (omega arith) (sweep-start _ _ l) drawn read;
+            expanded-more s 0 8 8 l l t at source (8 * byte + first) bits at (8 * byte + first) refl (omega arith) (omega arith)
+            (sweep-start _ _ l) drawn read;
       }
 
   pub eight-only : (n ≡ 16 → ⊥) → t ≡ expanded s n l at source (8 * byte + first)

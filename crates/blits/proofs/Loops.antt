@@ -68,7 +68,12 @@ pub record PartFits (b : Blit) (row rows c m other own : ℕ) : Type 0 where
 -- one row, or whole rows, of those that are left
 pub one-at-once : (w c m left : ℕ) → c < w → m ≡ min left (w - c) → AtOnce w c m left 1
 one-at-once w c m left h e =
-    record { some = omega arith; fit = omega arith; even = λ k p. (let none : k ≡ 0 = omega arith in rw none (omega arith)); ended = λ p. omega arith }
+    record {
+      some = omega arith;
+      fit = omega arith;
+      even = λ k p. (let none : k ≡ 0 = omega arith in rw none (omega arith));
+      ended = λ p. omega arith;
+    }
 
 pub rows-at-once : (w c m left : ℕ) → c < w → m ≡ min left (w - c) → w ≤ m → AtOnce w c m left (left / w)
 rows-at-once w c m left h e l =
@@ -100,7 +105,8 @@ whole-part b first n other own some small f =
     }
 
 pub whole-fitting : (b : Blit) (first n other own : ℕ) → Fitting b first n other own → Fitting b 0 (blitCount (b .size)) other own
-whole-fitting b first n other own f = record { own-area = f .own-area; other-area = f .other-area; inside = f .inside; visits = omega arith }
+whole-fitting b first n other own f =
+    record { own-area = f .own-area; other-area = f .other-area; inside = f .inside; visits = omega arith }
 
 pub whole-first : (b : Blit) (first n : ℕ) (other l k : List ℕ) → n ≡ blitCount (b .size) → first + n ≤ blitCount (b .size)
     → k ≡ inTurn (visited b other) (blitCount (b .size)) l → k ≡ inTurn (λ i. visited b other (first + i)) n l
@@ -153,7 +159,8 @@ module _ {b : Blit} {other : List ℕ} {first n : ℕ} {l t : List ℕ} {row col
   visiting-end h = turn-end (λ i. visited b other (first + i)) l k n t (v .few) h (v .done)
 
   -- the next visits, m in each of so many rows
-  module _ (h : k < n) (m rows : ℕ) (e : m ≡ min (n - k) (widthOf (b .size) - column)) (q : AtOnce (widthOf (b .size)) column m (n - k) rows) where
+  module _ (h : k < n) (m rows : ℕ) (e : m ≡ min (n - k) (widthOf (b .size) - column))
+      (q : AtOnce (widthOf (b .size)) column m (n - k) rows) where
     visiting-some : 0 < m
     visiting-some = omega (arith, v .stands h .short)
 
@@ -196,7 +203,8 @@ module _ {b : Blit} {other : List ℕ} {first n : ℕ} {l t : List ℕ} {row col
         }
 
     pub visiting-turn : (u : List ℕ) → length u ≡ length t
-        → u ≡ inTurn (λ i. visited b other (widthOf (b .size) * row + column + i)) (m * rows) t → Visiting b other first n l u (row + rows) 0 (k + m * rows)
+        → u ≡ inTurn (λ i. visited b other (widthOf (b .size) * row + column + i)) (m * rows) t → Visiting b other first n l u
+        (row + rows) 0 (k + m * rows)
     visiting-turn u s g =
         record {
           few = visiting-more .1;

@@ -267,7 +267,8 @@ module _ (t : Tiling) {wide : List ℕ} (d : Doubled wide) (first n own : ℕ) (
       whole-part (copyOf t) first n (length (plane t d)) own (omega (arith, some, all)) small (plane-fitting t (d .tile) first n own f)
 
   pub all-visits : {visible : Visible} (same : visible ≡ visibleOf (copyOf t)) {across down : Range}
-      (of-columns : across ≡ partOf (visible .columns) 0 (widthOf (t .size))) (of-rows : down ≡ partOf (visible .rows) 0 (heightOf (t .size))) (l k : List ℕ)
+      (of-columns : across ≡ partOf (visible .columns) 0 (widthOf (t .size)))
+      (of-rows : down ≡ partOf (visible .rows) 0 (heightOf (t .size))) (l k : List ℕ)
       → k ≡ boxOf (Copied (unkeyed (t .selectors))) (t .width) (t .to) (t .to) (t .direction) across down (plane t d) l
       → k ≡ inTurn (λ i. visited (copyOf t) (plane t d) (first + i)) n l
   all-visits same of-columns of-rows l k e =

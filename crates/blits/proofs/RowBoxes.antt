@@ -45,7 +45,8 @@ module _ (b : Blit) (other : List ℕ) {row rows c m own : ℕ} (f : PartFits b 
   part-fits wide =
       box-fits b other row rows c m own (f .each) across down part-columns part-lines wide
       (omega (arith, past-most (row + rows) (visibleRows b .past) (down .past) (ap (λ s. s .past) part-lines) .0, last-row .row-small))
-      (z-small b other row c m own first-row (across .from) (across .past) (ap (λ s. s .from) part-columns) (ap (λ s. s .past) part-columns))
+      (z-small b other row c m own first-row (across .from) (across .past) (ap (λ s. s .from) part-columns)
+      (ap (λ s. s .past) part-columns))
       (first-row .other-area ∙ sym (first-row .own-area))
 
   pub part-inside : reads (b .paint) ≡ true → BoxInside (sourceWidth b) (b .height) (b .from) (b .direction) across down
@@ -56,7 +57,8 @@ module _ (b : Blit) (other : List ℕ) {row rows c m own : ℕ} (f : PartFits b 
   part-visits l k e =
       let w = widthOf (b .size) in
       e ∙ box-visits b other row rows c m own (f .each) across down part-columns part-lines l
-      ∙ turn-agree (λ r. inTurn (λ i. visited b other (w * (row + r) + c + i)) m) (λ r. inTurn (λ i. visited b other (w * row + c + (m * r + i))) m) rows l
+      ∙ turn-agree (λ r. inTurn (λ i. visited b other (w * (row + r) + c + i)) m)
+      (λ r. inTurn (λ i. visited b other (w * row + c + (m * r + i))) m) rows l
       (λ r h t.
       turn-agree (λ i. visited b other (w * (row + r) + c + i)) (λ i. visited b other (w * row + c + (m * r + i))) m t
       (λ i p u.
@@ -65,7 +67,8 @@ module _ (b : Blit) (other : List ℕ) {row rows c m own : ℕ} (f : PartFits b 
       ∙ turn-rows (λ j. visited b other (w * row + c + j)) m rows l
 
 -- all visits, counted from the first
-pub whole-visits : (b : Blit) (other l k : List ℕ) → k ≡ inTurn (λ i. visited b other (widthOf (b .size) * 0 + 0 + i)) (blitCount (b .size)) l
+pub whole-visits : (b : Blit) (other l k : List ℕ) → k ≡ inTurn (λ i. visited b other (widthOf (b .size) * 0 + 0 + i))
+    (blitCount (b .size)) l
     → k ≡ inTurn (visited b other) (blitCount (b .size)) l
 whole-visits b other l k e =
     e
@@ -78,13 +81,16 @@ unfolding visibleColumns visibleRows visibleRange
 window-alone b e =
     let to = pointOf (b .to) in
     let from = pointOf (b .from) in
-    let columns = ap (λ r. visibleRange r (rightToLeft (b .direction)) (to .x) (b .window .left) (b .window .right) (from .x) (sourceWidth b)) (sym e) in
-    let rows = ap (λ r. visibleRange r (bottomToTop (b .direction)) (to .y) (b .window .top) (b .window .bottom) (from .y) (b .height)) (sym e) in
+    let columns =
+    ap (λ r. visibleRange r (rightToLeft (b .direction)) (to .x) (b .window .left) (b .window .right) (from .x) (sourceWidth b)) (sym e) in
+    let rows =
+    ap (λ r. visibleRange r (bottomToTop (b .direction)) (to .y) (b .window .top) (b .window .bottom) (from .y) (b .height)) (sym e) in
     λ i. record { columns = columns i; rows = rows i }
 
 -- a whole blit with one pen, whatever the other buffer is
 module _ (b : Blit) (pen : Pen) (l : List ℕ) (is : b .paint ≡ Solid pen) (some : 0 < blitCount (b .size)) (small : b .size < 4294967296)
-    (f : Fitting b 0 (blitCount (b .size)) (length l) (length l)) {shown : Visible} (same : shown ≡ windowRanges (b .window) (b .to) (b .direction))
+    (f : Fitting b 0 (blitCount (b .size)) (length l) (length l)) {shown : Visible}
+    (same : shown ≡ windowRanges (b .window) (b .to) (b .direction))
     {across down : Range} (of-columns : across ≡ partOf (shown .columns) 0 (widthOf (b .size)))
     (of-rows : down ≡ partOf (shown .rows) 0 (heightOf (b .size))) where
   shown-all : shown ≡ visibleOf b
@@ -102,7 +108,8 @@ module _ (b : Blit) (pen : Pen) (l : List ℕ) (is : b .paint ≡ Solid pen) (so
       }
 
   pub filled-visits : (other k : List ℕ) → length other ≡ length l
-      → k ≡ boxOf (Solid pen) (b .width) (b .to) (b .from) (b .direction) across down other l → k ≡ inTurn (visited b other) (blitCount (b .size)) l
+      → k ≡ boxOf (Solid pen) (b .width) (b .to) (b .from) (b .direction) across down other l → k ≡ inTurn (visited b other)
+      (blitCount (b .size)) l
   filled-visits other k long e =
       let g : Fitting b 0 (blitCount (b .size)) (length other) (length l) =
       record { own-area = f .own-area; other-area = long ∙ f .own-area; inside = f .inside; visits = f .visits } in

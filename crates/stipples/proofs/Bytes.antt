@@ -36,14 +36,16 @@ byte-ones k bits hk hb =
 -- what is below a byte is small
 below-each : (k : ℕ) → k < 8 → 0x0101_0101_0101_0101 % 2 ^ (8 * k) * 255 < 2 ^ (8 * k)
 below-each k h =
-    ltb→lt (0x0101_0101_0101_0101 % 2 ^ (8 * k) * 255) (2 ^ (8 * k)) (at 8 (λ k. ltb (0x0101_0101_0101_0101 % 2 ^ (8 * k) * 255) (2 ^ (8 * k))) tt k h)
+    ltb→lt (0x0101_0101_0101_0101 % 2 ^ (8 * k) * 255) (2 ^ (8 * k))
+    (at 8 (λ k. ltb (0x0101_0101_0101_0101 % 2 ^ (8 * k) * 255) (2 ^ (8 * k))) tt k h)
 
 below-ones : (k bits : ℕ) → k < 8 → onesOf bits % 2 ^ (8 * k) * 255 < 2 ^ (8 * k)
 unfolding onesOf
 below-ones k bits h =
     let word = (bitAnd (eightOf bits) 0x0102_0408_1020_4080 + 0x7F7F_7F7F_7F7F_7F7F) / 2 ^ 7 in
     let p = 2 ^ (8 * k) in
-    let most : onesOf bits % p ≤ 0x0101_0101_0101_0101 % p = rw (and-mod word 0x0101_0101_0101_0101 (8 * k)) (and-le-r (word % p) (0x0101_0101_0101_0101 % p)) in
+    let most : onesOf bits % p ≤ 0x0101_0101_0101_0101 % p =
+    rw (and-mod word 0x0101_0101_0101_0101 (8 * k)) (and-le-r (word % p) (0x0101_0101_0101_0101 % p)) in
     omega (arith, most, below-each k h)
 
 chosen-byte : (one : Bool) (c : ℕ) → c < 256 → cond one 1 0 * c % 256 ≡ cond one c 0
@@ -56,10 +58,15 @@ product-byte p o c some small low =
     let q = o / p in
     let l = o % p in
     let rest : l * c < p = omega (arith, low, mul-le-mul-left {m = c} {n = 255} l (omega arith)) in
-    let parts : o * c ≡ p * (q * c) + l * c = ap (λ o. o * c) (sym (div-add-mod o p)) ∙ add-mul (p * q) l c ∙ ap (λ x. x + l * c) (mul-assoc p q c) in
+    let parts : o * c ≡ p * (q * c) + l * c =
+    ap (λ o. o * c) (sym (div-add-mod o p)) ∙ add-mul (p * q) l c ∙ ap (λ x. x + l * c) (mul-assoc p q c) in
     let none : l * c / p ≡ 0 = div-eq-of-lt rest in
-    let whole : o * c / p ≡ q * c = ap (λ x. x / p) parts ∙ mul-add-div {m = p} some (q * c) (l * c) ∙ ap (λ x. q * c + x) none ∙ (let e : q * c + 0 ≡ q * c = omega arith in e) in
-    let bytes : q * c ≡ 256 * (q / 256 * c) + q % 256 * c = ap (λ q. q * c) (sym (div-add-mod q 256)) ∙ add-mul (256 * (q / 256)) (q % 256) c ∙ ap (λ x. x + q % 256 * c) (mul-assoc 256 (q / 256) c) in
+    let whole : o * c / p ≡ q * c =
+    ap (λ x. x / p) parts ∙ mul-add-div {m = p} some (q * c) (l * c) ∙ ap (λ x. q * c + x) none
+    ∙ (let e : q * c + 0 ≡ q * c = omega arith in e) in
+    let bytes : q * c ≡ 256 * (q / 256 * c) + q % 256 * c =
+    ap (λ q. q * c) (sym (div-add-mod q 256)) ∙ add-mul (256 * (q / 256)) (q % 256) c
+    ∙ ap (λ x. x + q % 256 * c) (mul-assoc 256 (q / 256) c) in
     ap (λ x. x % 256) (whole ∙ bytes) ∙ mul-add-mod-self-left 256 (q / 256 * c) (q % 256 * c)
 
 pub byte-product : (k bits c : ℕ) → k < 8 → bits < 256 → c < 256 → byteIn k (onesOf bits * c) ≡ cond (bitIn k bits) c 0

@@ -28,8 +28,11 @@ blit-count-requires c κs = search needs
 draw-whole-requires : tie.Need-draw-whole-requires
 draw-whole-requires c κs =
     let all = c .before in
-    let counted = all .before in
-    (omega (arith, all .if3 .taken, counted .blit-count .ensures), whole-fitting _ _ _ _ _ (fitting-of _ _ _ _ _ (fits (counted .before .before))))
+    let counted = all .before in (
+      omega (arith, all .if3 .taken, counted .blit-count .ensures),
+      whole-fitting _ _ _ _ _
+          (fitting-of _ _ _ _ _ (fits (counted .before .before))),
+    )
 
 same-length : tie.Need-same-length
 same-length c = search needs
@@ -42,7 +45,8 @@ returns-3 c =
     let passed = counted .before .before in
     let s = passed .before .before .before .before .args in
     whole-first (s .b) (s .first) (s .n) (s .other .now) (s .buffer .now) _ (all .if3 .taken ∙ counted .blit-count .ensures)
-    (fitting-of (s .b) (s .first) (s .n) (length (s .other .now)) (length (s .buffer .now)) (fits passed) .visits) (done .draw-whole .ensures)
+    (fitting-of (s .b) (s .first) (s .n) (length (s .other .now)) (length (s .buffer .now)) (fits passed) .visits)
+    (done .draw-whole .ensures)
     ∙ blit-in (s .b) (s .first) (s .n) (s .other .now) (s .buffer .now) (fits passed)
 
 draw-visits-requires : tie.Need-draw-visits-requires

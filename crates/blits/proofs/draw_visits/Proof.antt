@@ -12,7 +12,8 @@ use Rattle.blits.proofs.draw_visits.Statement.{statement}
 use Rattle.blits.proofs.draw_visits.Tie as tie
 
 abbrev Inv-loop : tie.InvT-loop
-Inv-loop b first n buffer₀ other visible paint across row₀ column₀ k₀ buffer row column k = Visiting b other first n buffer₀ buffer row column k
+Inv-loop b first n buffer₀ other visible paint across row₀ column₀ k₀ buffer row column k =
+    Visiting b other first n buffer₀ buffer row column k
 
 abbrev μ-loop : tie.MeasureT-loop
 μ-loop b first n buffer₀ other visible paint across row₀ column₀ k₀ buffer row column k = n - k
@@ -71,7 +72,8 @@ at-once c = c .rows-at-once .ensures _ (c .before .before .before .loop .inv .st
 part : (c : tie.After-rows-at-once Inv-loop μ-loop) →
     let at = c .before .before .before in
     let s = at .before .before .before .before .before .args in
-    PartFits (s .b) (at .loop .row) (c .rows-at-once .result) (at .loop .column) (c .before .min .result) (length (s .other .now)) (length (at .loop .buffer))
+    PartFits (s .b) (at .loop .row) (c .rows-at-once .result) (at .loop .column) (c .before .min .result) (length (s .other .now))
+    (length (at .loop .buffer))
 part c = visiting-part (c .before .before .before .loop .inv) (omega arith) _ _ (c .before .min .ensures) (at-once c)
 
 more : (c : tie.After-rows-at-once Inv-loop μ-loop) →
@@ -97,13 +99,18 @@ paint-box-requires c κs =
     let q = columns .before in
     let visible = q .before .before .before .before .before in
     let start = visible .before .before .before in
-    part-fits (start .args .b) (start .args .other .now) (part q) (visible .visible-of .ensures) (columns .part .ensures) (lines .part2 .ensures) (wide start)
+    part-fits (start .args .b) (start .args .other .now) (part q) (visible .visible-of .ensures) (columns .part .ensures)
+    (lines .part2 .ensures) (wide start)
 
 mul-k : tie.Need-mul-k Inv-loop μ-loop
-mul-k c = let q = c .before .before .before .before .before .before in omega (arith, more q .1, visiting-far (q .before .before .before .loop .inv))
+mul-k c =
+    let q = c .before .before .before .before .before .before in
+    omega (arith, more q .1, visiting-far (q .before .before .before .loop .inv))
 
 add-k : tie.Need-add-k Inv-loop μ-loop
-add-k c = let q = c .before .before .before .before .before .before in omega (arith, more q .1, visiting-far (q .before .before .before .loop .inv))
+add-k c =
+    let q = c .before .before .before .before .before .before in
+    omega (arith, more q .1, visiting-far (q .before .before .before .loop .inv))
 
 add-row : tie.Need-add-row Inv-loop μ-loop
 add-row c =
@@ -123,7 +130,8 @@ loop-again c =
     let visible = at .before .before in
     let s = visible .before .before .before .args in
     visiting-turn (at .loop .inv) (omega arith) _ _ (q .before .min .ensures) (at-once q) _ (done .paint-box .kept .1 .1 .1 .1 .1 .1 .1 .0)
-    (part-visits (s .b) (s .other .now) (part q) (visible .visible-of .ensures) (columns .part .ensures) (lines .part2 .ensures) _ _ (done .paint-box .ensures))
+    (part-visits (s .b) (s .other .now) (part q) (visible .visible-of .ensures) (columns .part .ensures) (lines .part2 .ensures) _ _
+    (done .paint-box .ensures))
 
 same-length : tie.Need-same-length Inv-loop μ-loop
 same-length c = c .before .loop .inv .long

@@ -58,7 +58,8 @@ paint-box-requires c κs =
     let visible = columns .before .before in
     let start = visible .before .before .before .before in
     let s = start .args in
-    part-fits (s .b) (s .other .now) (part start) (visible .visible-of .ensures) (columns .part .ensures) (lines .part2 .ensures) (wide start)
+    part-fits (s .b) (s .other .now) (part start) (visible .visible-of .ensures) (columns .part .ensures) (lines .part2 .ensures)
+    (wide start)
 
 same-length-2 : tie.Need-same-length-2
 same-length-2 c = search needs
@@ -72,7 +73,8 @@ returns-2 c =
     let start = visible .before .before .before .before in
     let s = start .args in
     whole-visits (s .b) (s .other .now) _ _
-    (part-visits (s .b) (s .other .now) (part start) (visible .visible-of .ensures) (columns .part .ensures) (lines .part2 .ensures) _ _ (done .paint-box .ensures))
+    (part-visits (s .b) (s .other .now) (part start) (visible .visible-of .ensures) (columns .part .ensures) (lines .part2 .ensures) _ _
+    (done .paint-box .ensures))
 
 pub draw-whole-spec : {M : Type 1} → statement M
 draw-whole-spec =

@@ -10,10 +10,18 @@ use Rattle.blits.proofs.fill_box.Statement.{statement}
 use Rattle.blits.proofs.fill_box.Tie as tie
 
 returns : tie.Need-returns
-returns c = let s = c .before .before .args in λ from other. no-columns (Solid (s .pen)) (s .width) (s .to) from (s .direction) (s .across) (s .down) other _ (c .if1 .taken)
+returns c =
+    let s = c .before .before .args in
+    λ from other.
+    no-columns (Solid (s .pen)) (s .width) (s .to) from (s .direction) (s .across)
+    (s .down) other _ (c .if1 .taken)
 
 returns-2 : tie.Need-returns-2
-returns-2 c = let s = c .before .before .before .args in λ from other. no-rows (Solid (s .pen)) (s .width) (s .to) from (s .direction) (s .across) (s .down) other _ (c .if2 .taken)
+returns-2 c =
+    let s = c .before .before .before .args in
+    λ from other.
+    no-rows (Solid (s .pen)) (s .width) (s .to) from (s .direction) (s .across)
+    (s .down) other _ (c .if2 .taken)
 
 place-at-requires : tie.Need-place-at-requires
 place-at-requires c κs = search needs
@@ -39,7 +47,8 @@ returns-3 c =
     let s = place .before .before .before .before .args in
     λ from other.
     let source = placeAt from (s .width) (s .direction) (s .across .from) (s .across .past) (s .down .from) in
-    box-painted (Solid (s .pen)) (s .width) (s .to) from (s .direction) (s .across) (s .down) other _ (s .width) _ source _ refl (place .place-at .ensures) refl
+    box-painted (Solid (s .pen)) (s .width) (s .to) from (s .direction) (s .across) (s .down) other _ (s .width) _ source _ refl
+    (place .place-at .ensures) refl
     (done .fill-rows .ensures (rightToLeft (s .direction)) (s .width) other source)
 
 pub fill-box-spec : {M : Type 1} → statement M

@@ -33,7 +33,8 @@ fill-box-requires c κs =
     let shown = columns .before .before in
     let start = shown .before .before in
     let s = start .args in
-    filled-fits (s .b) (s .pen) (s .buffer .now) (start .pre .0) (start .pre .1) (size-small start) (start .pre .2) (shown .window-ranges .ensures)
+    filled-fits (s .b) (s .pen) (s .buffer .now) (start .pre .0) (start .pre .1) (size-small start) (start .pre .2)
+    (shown .window-ranges .ensures)
     (columns .part .ensures) (lines .part2 .ensures) (wide start)
 
 same-length : tie.Need-same-length
@@ -48,7 +49,8 @@ returns c =
     let start = shown .before .before in
     let s = start .args in
     λ other long.
-    filled-visits (s .b) (s .pen) (s .buffer .now) (start .pre .0) (start .pre .1) (size-small start) (start .pre .2) (shown .window-ranges .ensures)
+    filled-visits (s .b) (s .pen) (s .buffer .now) (start .pre .0) (start .pre .1) (size-small start) (start .pre .2)
+    (shown .window-ranges .ensures)
     (columns .part .ensures) (lines .part2 .ensures) other _ long (done .fill-box .ensures (s .b .from) other)
 
 pub fill-whole-spec : {M : Type 1} → statement M

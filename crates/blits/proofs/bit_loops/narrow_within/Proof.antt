@@ -14,7 +14,8 @@ use Rattle.blits.proofs.bit_loops.narrow_within.Tie as tie
 
 abbrev Inv-loop : tie.InvT-loop
 Inv-loop up width buffer₀ at from n rows s inks first to₀ byte₀ k₀ buffer to byte k =
-    (back : Bool) (other : List ℕ) → Rowed (StippledWithin s) back up width (8 * width) other at from n rows buffer₀ buffer to (8 * byte + first) k
+    (back : Bool) (other : List ℕ) → Rowed (StippledWithin s) back up width (8 * width) other at from n rows buffer₀ buffer to
+    (8 * byte + first) k
 
 abbrev μ-loop : tie.MeasureT-loop
 μ-loop up width buffer₀ at from n rows s inks first to₀ byte₀ k₀ buffer to byte k = rows - k
@@ -58,7 +59,8 @@ loop-again c =
     λ back other.
     let r = at .loop .inv back other in
     rowed-turn r (omega arith) _ _ _ (done .narrow-apart .kept .0) (c .before .along .ensures)
-    (λ _. bits-next _ _ r refl (omega arith) (omega arith) _ (c .along2 .ensures)) (stippled-within back _ _ _ _ _ _ (done .narrow-apart .ensures back) other)
+    (λ _. bits-next _ _ r refl (omega arith) (omega arith) _ (c .along2 .ensures))
+    (stippled-within back _ _ _ _ _ _ (done .narrow-apart .ensures back) other)
 
 same-length : tie.Need-same-length Inv-loop μ-loop
 same-length c = c .before .loop .inv false [] .long

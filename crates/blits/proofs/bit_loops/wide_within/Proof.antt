@@ -56,7 +56,8 @@ loop-again c =
     λ other.
     let r = at .loop .inv other in
     rowed-turn r (omega arith) _ _ _ (done .expand-within .kept .1 .1 .0) (c .before .along .ensures)
-    (λ _. bits-next _ _ r refl (omega arith) (omega arith) _ (c .along2 .ensures)) (stippled-within (s .back) _ _ _ _ _ _ (done .expand-within .ensures) other)
+    (λ _. bits-next _ _ r refl (omega arith) (omega arith) _ (c .along2 .ensures))
+    (stippled-within (s .back) _ _ _ _ _ _ (done .expand-within .ensures) other)
 
 same-length : tie.Need-same-length Inv-loop μ-loop
 same-length c = c .before .loop .inv [] .long

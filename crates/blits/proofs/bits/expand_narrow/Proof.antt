@@ -40,8 +40,10 @@ returns c =
     let had-first = first .before in
     let start = had-first .before .before .before .before in
     let a = start .args in
-    eight-more (a .s) (a .n) (a .buffer .now) (a .at) (a .source .now) (a .byte) (a .first) (start .pre .0) _ _ (first .draw-glyph-byte .kept .0) (first .draw-glyph-byte .ensures)
-    (had-first .bits-at .ensures) (told .if1 .taken) _ _ (second .draw-glyph-byte2 .kept .0) (second .draw-glyph-byte2 .ensures) (had-second .bits-at2 .ensures)
+    eight-more (a .s) (a .n) (a .buffer .now) (a .at) (a .source .now) (a .byte) (a .first) (start .pre .0) _ _
+    (first .draw-glyph-byte .kept .0) (first .draw-glyph-byte .ensures)
+    (had-first .bits-at .ensures) (told .if1 .taken) _ _ (second .draw-glyph-byte2 .kept .0) (second .draw-glyph-byte2 .ensures)
+    (had-second .bits-at2 .ensures)
 
 same-length-2 : tie.Need-same-length-2
 same-length-2 c = search needs
@@ -52,7 +54,8 @@ returns-2 c =
     let had = first .before in
     let start = had .before .before .before .before in
     let a = start .args in
-    eight-only (a .s) (a .n) (a .buffer .now) (a .at) (a .source .now) (a .byte) (a .first) (start .pre .0) _ _ (first .draw-glyph-byte .kept .0) (first .draw-glyph-byte .ensures)
+    eight-only (a .s) (a .n) (a .buffer .now) (a .at) (a .source .now) (a .byte) (a .first) (start .pre .0) _ _
+    (first .draw-glyph-byte .kept .0) (first .draw-glyph-byte .ensures)
     (had .bits-at .ensures) (c .if1 .left)
 
 pub expand-narrow-spec : {M : Type 1} → statement M

@@ -10,8 +10,11 @@ use Rattle.blits.proofs.bits.narrow_apart.Tie as tie
 bits-at-requires : tie.Need-bits-at-requires
 bits-at-requires c κs =
     let start = c .before .before .before in
-    let f = start .pre .3 in
-    (omega arith, omega arith, record { in-byte = f .in-byte; within = omega (arith, f .within, eight-of (start .args .n) (start .pre .0)) })
+    let f = start .pre .3 in (
+      omega arith,
+      omega arith,
+      record { in-byte = f .in-byte; within = omega (arith, f .within, eight-of (start .args .n) (start .pre .0)) },
+    )
 
 draw-glyph-byte-requires : tie.Need-draw-glyph-byte-requires
 draw-glyph-byte-requires c κs =
@@ -49,7 +52,8 @@ returns c =
     let x = eight-drawn (a .s) (a .n) l (a .at) l (a .byte) (a .first) (start .pre .0) _ _ long drawn read in
     λ back.
     own-apart (a .s) (a .n) (a .at) (a .byte) (a .first) (start .pre .3 .in-byte) (start .pre .4) l back _
-    (eight-more (a .s) (a .n) l (a .at) l (a .byte) (a .first) (start .pre .0) _ _ long drawn read (told .if1 .taken) _ _ (second .draw-glyph-byte2 .kept .0)
+    (eight-more (a .s) (a .n) l (a .at) l (a .byte) (a .first) (start .pre .0) _ _ long drawn read (told .if1 .taken) _ _
+    (second .draw-glyph-byte2 .kept .0)
     (second .draw-glyph-byte2 .ensures)
     (unwritten-bits x 8 (omega (arith, told .if1 .taken)) refl (start .pre .3 .in-byte) (start .pre .4) _ (had-second .bits-at2 .ensures)))
 
@@ -65,7 +69,8 @@ returns-2 c =
     let l = a .buffer .now in
     λ back.
     own-apart (a .s) (a .n) (a .at) (a .byte) (a .first) (start .pre .3 .in-byte) (start .pre .4) l back _
-    (eight-only (a .s) (a .n) l (a .at) l (a .byte) (a .first) (start .pre .0) _ _ (first .draw-glyph-byte .kept .0) (first .draw-glyph-byte .ensures)
+    (eight-only (a .s) (a .n) l (a .at) l (a .byte) (a .first) (start .pre .0) _ _ (first .draw-glyph-byte .kept .0)
+    (first .draw-glyph-byte .ensures)
     (had .bits-at .ensures) (c .if1 .left))
 
 pub narrow-apart-spec : {M : Type 1} → statement M

@@ -100,14 +100,19 @@ tile-box-requires c κs =
     let q = columns .before in
     let at = q .before .before .before in
     let start = at .before .before .before .before in
-    part-tile (start .args .t) (start .pre .3) (visiting-part (held at) (omega arith) _ _ (q .before .min .ensures) (at-once q)) (start .pre .2)
+    part-tile (start .args .t) (start .pre .3) (visiting-part (held at) (omega arith) _ _ (q .before .min .ensures) (at-once q))
+    (start .pre .2)
     (columns .part .ensures) (rows .part2 .ensures) (narrow start)
 
 mul-k : tie.Need-mul-k Inv-loop μ-loop
-mul-k c = let q = c .before .before .before .before .before .before in omega (arith, more q .1, visiting-far (held (q .before .before .before)))
+mul-k c =
+    let q = c .before .before .before .before .before .before in
+    omega (arith, more q .1, visiting-far (held (q .before .before .before)))
 
 add-k : tie.Need-add-k Inv-loop μ-loop
-add-k c = let q = c .before .before .before .before .before .before in omega (arith, more q .1, visiting-far (held (q .before .before .before)))
+add-k c =
+    let q = c .before .before .before .before .before .before in
+    omega (arith, more q .1, visiting-far (held (q .before .before .before)))
 
 add-row : tie.Need-add-row Inv-loop μ-loop
 add-row c =

@@ -90,7 +90,8 @@ tile-box-requires c κs =
     let put = shown .before .before in
     let start = put .before .before .before .before .before .before .before in
     part-tile (start .args .t) (doubled put)
-    (all-part (start .args .t) (doubled put) _ _ _ (fitting (put .before .before .before)) (omega arith) (whole .if3 .taken ∙ counted .blit-count .ensures) (small start))
+    (all-part (start .args .t) (doubled put) _ _ _ (fitting (put .before .before .before)) (omega arith)
+    (whole .if3 .taken ∙ counted .blit-count .ensures) (small start))
     (shown .shown-of .ensures) (columns .part .ensures) (rows .part2 .ensures) (narrow start)
 
 same-length : tie.Need-same-length
@@ -112,7 +113,8 @@ returns-3 c =
     let same = shown .shown-of .ensures in
     all-visits t (doubled put) _ _ _ f (omega arith) all (small start) same (columns .part .ensures) (rows .part2 .ensures) _ _
     (done .tile-box .ensures
-    (part-tile t (doubled put) (all-part t (doubled put) _ _ _ f (omega arith) all (small start)) same (columns .part .ensures) (rows .part2 .ensures)
+    (part-tile t (doubled put) (all-part t (doubled put) _ _ _ f (omega arith) all (small start)) same (columns .part .ensures)
+    (rows .part2 .ensures)
     (narrow start)))
     ∙ blit-in _ _ _ _ _ (fits (put .before .before .before))
 
