@@ -45,7 +45,15 @@ fn fill_one(buffer: &mut [u8], at: usize, n: usize, pen: Pen)
 }
 
 // n pixels of each of so many rows, down or up from a row that begins at `at`.
-fn fill_rows(up: bool, width: usize, buffer: &mut [u8], at: usize, n: usize, rows: usize, pen: Pen)
+pub(crate) fn fill_rows(
+    up: bool,
+    width: usize,
+    buffer: &mut [u8],
+    at: usize,
+    n: usize,
+    rows: usize,
+    pen: Pen,
+)
     requires { ⌜ RowsFit up width at n rows (length (now buffer)) ⌝ }
     ensures { λ _. ⌜ ((back : Bool) (stride : ℕ) (other : List ℕ) (from : ℕ) → now (buffer .exit) ≡ inTurn (rowAt (Solid pen) back up width stride other at from n) rows (now (buffer .entry))) ⌝ }
 {
