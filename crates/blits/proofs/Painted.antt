@@ -7,10 +7,11 @@ use Prim.Native.Nat.{ℕ, _+_, _≤_}
 use native.Mathlib.Omega.{arith}
 use lib.ListN.{length, getD}
 use Rattle.raster.specs.declared.Pen.{Pen}
-use Rattle.rows.specs.Rows.{mixed, filledRow, copiedRow, movedRow, movedBackRow}
+use Rattle.rows.specs.Rows.{mixed, filledRow, copiedRow, movedRow, movedBackRow, Plain}
 use Rattle.rows.specs.declared.Mix.{Mix}
 use Rattle.lemmas.proofs.Orders.{turned-from}
 use Rattle.rows.proofs.Orders.{fill-turned, copy-turned}
+use Rattle.rows.proofs.Mixing.{mixed-plain}
 use Rattle.rows.proofs.Fitting.{filled-row, copied-row, moved-row, moved-back-row}
 use Rattle.stipples.specs.Stipples.{bitAt, stippled}
 use Rattle.stipples.specs.declared.Stipple.{Stipple}
@@ -32,6 +33,13 @@ unfolding rowOf
 copied-from false mix other l r at from n h k e = e ∙ sym (copied-row mix n l at other from h k)
 copied-from true mix other l r at from n h k e =
     e ∙ sym (copied-row mix n l at other from h k) ∙ sym (copy-turned (mixed mix) n l at other from)
+
+-- a mix of which every new byte is the source byte
+abbrev pub straight : Mix
+straight = record { selectors = record { both = 0; old = 0; source = 255; none = 0 }; keyed = false; key = 0 }
+
+pub straight-plain : Plain (mixed straight)
+straight-plain = mixed-plain straight refl refl refl refl refl
 
 pub moved-right : (back : Bool) (mix : Mix) (l r : List ℕ) (at from n : ℕ) → back ≡ false → at + n ≤ length l → from + n ≤ length l
     → r ≡ movedRow mix n l at from → (other : List ℕ) → r ≡ rowOf (Moved mix) back other at from n l

@@ -5,7 +5,8 @@ ghost use mathlib.Core.List.{List};
 ghost use Prim.Native.Nat.{ℕ, _+_, _≤_};
 ghost use lib.ListN.{length};
 ghost use Rattle.lemmas.specs.Turns.{inTurn};
-ghost use Rattle.rows.specs.Rows.{filledRow};
+ghost use Rattle.rows.specs.Rows.{filledRow, mixed, Plain};
+ghost use Rattle.rows.specs.declared.Mix.{Mix};
 ghost use Rattle.blits.specs.declared.Paint.the-variants.{Solid, Copied, Moved, Stippled, StippledWithin};
 ghost use Rattle.blits.specs.Rows.{rowOf, rowAt, RowsFit, PaintFits};
 use crate::Paint;
@@ -14,9 +15,13 @@ use crate::bit_loops::stipple_within;
 use crate::places::along;
 use raster::Pen;
 use rows::Mix;
+use rows::copy_long_row;
+use rows::copy_plain_row;
 use rows::copy_row;
+use rows::copy_short_row;
 use rows::fill_narrow;
 use rows::fill_row;
+use rows::is_plain;
 use rows::move_row;
 use rows::move_row_back;
 use stipples::Stipple;
@@ -58,8 +63,86 @@ fn fill_rows(up: bool, width: usize, buffer: &mut [u8], at: usize, n: usize, row
     }
 }
 
-// The same from another buffer, whose rows are `stride` apart.
-fn copy_rows(
+// The same from another buffer, whose rows are `stride` apart: where the new bytes are the source bytes, for 8 to 16 pixels, for 32 and
+// more, and for any number.
+fn copy_plain_rows(
+    up: bool,
+    width: usize,
+    stride: usize,
+    buffer: &mut [u8],
+    at: usize,
+    other: &[u8],
+    from: usize,
+    n: usize,
+    rows: usize,
+)
+    requires { ⌜ RowsFit up width at n rows (length (now buffer)) × RowsFit up stride from n rows (length (now other)) ⌝ }
+    ensures { λ _. ⌜ ((mix : Mix) → Plain (mixed mix) → (back : Bool) → now (buffer .exit) ≡ inTurn (rowAt (Copied mix) back up width stride (now (other .entry)) at from n) rows (now (buffer .entry))) ⌝ }
+{
+    let mut to = at;
+    let mut source = from;
+    let mut k: usize = 0;
+    while k < rows {
+        copy_plain_row(buffer, to, other, source, n);
+        to = along(up, to, width);
+        source = along(up, source, stride);
+        k += 1;
+    }
+}
+
+fn copy_short_rows(
+    up: bool,
+    width: usize,
+    stride: usize,
+    buffer: &mut [u8],
+    at: usize,
+    other: &[u8],
+    from: usize,
+    n: usize,
+    rows: usize,
+    mix: Mix,
+)
+    requires { ⌜ (8 ≤ n) × (n ≤ 16) × RowsFit up width at n rows (length (now buffer)) × RowsFit up stride from n rows (length (now other)) ⌝ }
+    ensures { λ _. ⌜ ((back : Bool) → now (buffer .exit) ≡ inTurn (rowAt (Copied mix) back up width stride (now (other .entry)) at from n) rows (now (buffer .entry))) ⌝ }
+{
+    let mut to = at;
+    let mut source = from;
+    let mut k: usize = 0;
+    while k < rows {
+        copy_short_row(buffer, to, other, source, n, mix);
+        to = along(up, to, width);
+        source = along(up, source, stride);
+        k += 1;
+    }
+}
+
+fn copy_long_rows(
+    up: bool,
+    width: usize,
+    stride: usize,
+    buffer: &mut [u8],
+    at: usize,
+    other: &[u8],
+    from: usize,
+    n: usize,
+    rows: usize,
+    mix: Mix,
+)
+    requires { ⌜ (32 ≤ n) × RowsFit up width at n rows (length (now buffer)) × RowsFit up stride from n rows (length (now other)) ⌝ }
+    ensures { λ _. ⌜ ((back : Bool) → now (buffer .exit) ≡ inTurn (rowAt (Copied mix) back up width stride (now (other .entry)) at from n) rows (now (buffer .entry))) ⌝ }
+{
+    let mut to = at;
+    let mut source = from;
+    let mut k: usize = 0;
+    while k < rows {
+        copy_long_row(buffer, to, other, source, n, mix);
+        to = along(up, to, width);
+        source = along(up, source, stride);
+        k += 1;
+    }
+}
+
+fn copy_any_rows(
     up: bool,
     width: usize,
     stride: usize,
@@ -83,6 +166,36 @@ fn copy_rows(
         source = along(up, source, stride);
         k += 1;
     }
+}
+
+fn copy_rows(
+    up: bool,
+    width: usize,
+    stride: usize,
+    buffer: &mut [u8],
+    at: usize,
+    other: &[u8],
+    from: usize,
+    n: usize,
+    rows: usize,
+    mix: Mix,
+)
+    requires { ⌜ RowsFit up width at n rows (length (now buffer)) × RowsFit up stride from n rows (length (now other)) ⌝ }
+    ensures { λ _. ⌜ ((back : Bool) → now (buffer .exit) ≡ inTurn (rowAt (Copied mix) back up width stride (now (other .entry)) at from n) rows (now (buffer .entry))) ⌝ }
+{
+    if is_plain(mix) {
+        copy_plain_rows(up, width, stride, buffer, at, other, from, n, rows);
+        return;
+    }
+    if (8 <= n) & (n <= 16) {
+        copy_short_rows(up, width, stride, buffer, at, other, from, n, rows, mix);
+        return;
+    }
+    if 32 <= n {
+        copy_long_rows(up, width, stride, buffer, at, other, from, n, rows, mix);
+        return;
+    }
+    copy_any_rows(up, width, stride, buffer, at, other, from, n, rows, mix);
 }
 
 // The same from the buffer itself.

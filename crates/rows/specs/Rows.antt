@@ -16,6 +16,10 @@ use Rattle.rows.specs.declared.Mix.{Mix}
 unfoldable pub mixed : Mix → ℕ → ℕ → ℕ
 mixed m s d = cond (m .keyed && eqb s (m .key)) d (drawn (selected (m .selectors) s) d)
 
+-- Every new byte is the source byte.
+abbrev pub Plain : (ℕ → ℕ → ℕ) → Type 0
+Plain f = (s d : ℕ) → s < 256 → s ≡ f s d
+
 -- n pixels of l from `at` on, to the right.
 abbrev pub filled : Pen → ℕ → List ℕ → ℕ → List ℕ
 filled p n l at = sweep (λ k. at + k) (λ k m. drawn p (getD m (at + k) 0)) n l

@@ -9,13 +9,15 @@ ghost use Rattle.rows.specs.Rows.{mixed, filled, copied, moved, movedBac
 use crate::Mix;
 use raster::Pen;
 
-// The new byte. KEY chooses a value and skips no store, so that the loops below are vectorised.
+// The new byte. Where the source byte is KEY none of its bits are taken: with no branch, and no store left out, the loops below are
+// vectorised, and loops of fixed length too.
 fn mix_byte(mix: Mix, s: u8, d: u8) -> u8
     ensures { λ r. ⌜ r ≡ mixed mix s d ⌝ }
 {
     let q = mix.selectors;
     let new = (d & ((s & q.both) ^ q.old)) ^ ((s & q.source) ^ q.none);
-    if mix.keyed & (s == mix.key) { d } else { new }
+    let mask: u8 = if mix.keyed & (s == mix.key) { 0 } else { 255 };
+    d ^ ((d ^ new) & mask)
 }
 
 // Each byte becomes x.

@@ -7,14 +7,16 @@ mod unmixed;
 
 ghost use mathlib.Core.Path.{_≡_};
 ghost use mathlib.Core.Bool.{true};
-ghost use Prim.Native.Nat.{ℕ, _+_, _<_, _≤_};
+ghost use Prim.Native.Nat.{ℕ, _+_, _≤_};
 ghost use lib.Dec.{leb};
 ghost use lib.ListN.{length};
-ghost use Rattle.rows.specs.Rows.{mixed, unkeyed, covered, filled, copied, moved, movedBack, Twice};
+ghost use Rattle.rows.specs.declared.Mix.{Mix};
+ghost use Rattle.rows.specs.Rows.{mixed, unkeyed, covered, filled, moved, movedBack, Plain, Twice};
 ghost use Rattle.rows.specs.Rows.{filledRow, copiedRow, movedRow, movedBackRow, tiledRow};
 use crate::by_blocks::draw_long;
 use crate::by_blocks::draw_short;
 use crate::by_blocks::mix_long;
+use crate::by_blocks::mix_short;
 use crate::by_blocks::move_long;
 use crate::by_blocks::move_long_back;
 use crate::by_bytes::draw_bytes;
@@ -39,8 +41,8 @@ pub struct Mix {
 }
 
 // True only where every new byte is the source byte.
-fn is_plain(mix: Mix) -> bool
-    ensures { λ r. ⌜ (r ≡ true → (s d : ℕ) → s < 256 → s ≡ mixed mix s d) ⌝ }
+pub fn is_plain(mix: Mix) -> bool
+    ensures { λ r. ⌜ (r ≡ true → Plain (mixed mix)) ⌝ }
 {
     let q = mix.selectors;
     !mix.keyed & (q.both == 0) & (q.old == 0) & (q.source == 255) & (q.none == 0)
@@ -72,22 +74,7 @@ fn fill_pixels(buffer: &mut [u8], at: usize, n: usize, pen: Pen)
     draw_long(buffer, at, n, pen);
 }
 
-// Rows that fit, from another buffer and within one.
-fn copy_pixels(buffer: &mut [u8], at: usize, source: &[u8], from: usize, n: usize, mix: Mix)
-    requires { ⌜ (at + n ≤ length (now buffer)) × (from + n ≤ length (now source)) ⌝ }
-    ensures { λ _. ⌜ now (buffer .exit) ≡ copied (mixed mix) n (now (buffer .entry)) at (now (source .entry)) from ⌝ }
-{
-    if is_plain(mix) {
-        copy_plain(buffer, at, source, from, n);
-        return;
-    }
-    if n < 32 {
-        mix_bytes(buffer, at, source, from, n, mix);
-        return;
-    }
-    mix_long(buffer, at, source, from, n, mix);
-}
-
+// Rows that fit, within one buffer.
 fn move_pixels(buffer: &mut [u8], at: usize, from: usize, n: usize, mix: Mix)
     requires { ⌜ (at + n ≤ length (now buffer)) × (from + n ≤ length (now buffer)) ⌝ }
     ensures { λ _. ⌜ now (buffer .exit) ≡ moved (mixed mix) n (now (buffer .entry)) at from ⌝ }
@@ -157,7 +144,42 @@ pub fn copy_row(buffer: &mut [u8], at: usize, source: &[u8], from: usize, n: usi
     if !(fits(buffer.len(), at, n) & fits(source.len(), from, n)) {
         return;
     }
-    copy_pixels(buffer, at, source, from, n, mix);
+    mix_bytes(buffer, at, source, from, n, mix);
+}
+
+// The same where every new byte is the source byte, and where there are 8 to 16 pixels, or 32 and more. Each for a loop of its own: one
+// over rows of every kind keeps what all kinds need.
+pub fn copy_plain_row(buffer: &mut [u8], at: usize, source: &[u8], from: usize, n: usize)
+    ensures { λ _. ⌜ ((mix : Mix) → Plain (mixed mix) → now (buffer .exit) ≡ copiedRow mix n (now (buffer .entry)) at (now (source .entry)) from) ⌝ }
+{
+    if !(fits(buffer.len(), at, n) & fits(source.len(), from, n)) {
+        return;
+    }
+    copy_plain(buffer, at, source, from, n);
+}
+
+pub fn copy_short_row(buffer: &mut [u8], at: usize, source: &[u8], from: usize, n: usize, mix: Mix)
+    ensures { λ _. ⌜ (8 ≤ n → n ≤ 16 → now (buffer .exit) ≡ copiedRow mix n (now (buffer .entry)) at (now (source .entry)) from) ⌝ }
+{
+    if (n < 8) | (16 < n) {
+        return;
+    }
+    if !(fits(buffer.len(), at, n) & fits(source.len(), from, n)) {
+        return;
+    }
+    mix_short(buffer, at, source, from, n, mix);
+}
+
+pub fn copy_long_row(buffer: &mut [u8], at: usize, source: &[u8], from: usize, n: usize, mix: Mix)
+    ensures { λ _. ⌜ (32 ≤ n → now (buffer .exit) ≡ copiedRow mix n (now (buffer .entry)) at (now (source .entry)) from) ⌝ }
+{
+    if n < 32 {
+        return;
+    }
+    if !(fits(buffer.len(), at, n) & fits(source.len(), from, n)) {
+        return;
+    }
+    mix_long(buffer, at, source, from, n, mix);
 }
 
 // The same within one buffer, from left to right.
