@@ -129,6 +129,11 @@ module _ {mix : Mix} {back up : Bool} {width stride : ℕ} {other : List ℕ} {a
   copied-turn h u to′ source′ e p q g =
       rowed-turn r h u to′ source′ e p (λ _ _. q) (copied-from back mix other t u to source n (row-inside r h) (source-inside r h refl) g)
 
+-- rows in a direction that is known
+pub in-direction : (back b : Bool) (paint : Paint) (up : Bool) (width stride : ℕ) (other : List ℕ) (at from n rows : ℕ) (l r : List ℕ) → back ≡ b
+    → r ≡ inTurn (rowAt paint b up width stride other at from n) rows l → r ≡ inTurn (rowAt paint back up width stride other at from n) rows l
+in-direction back b paint up width stride other at from n rows l r e h = rw e h
+
 -- ---- rows of bits, by the byte that each begins in
 
 in-bytes : (up : Bool) (from p byte first : ℕ) → first < 8 → (up ≡ true → 8 * p ≤ from) → 8 * byte + first ≡ away up from (8 * p) → byte ≡ away up (from / 8) p
