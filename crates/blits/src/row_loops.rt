@@ -13,6 +13,7 @@ use crate::Paint;
 use crate::bit_loops::stipple_rows;
 use crate::bit_loops::stipple_within;
 use crate::places::along;
+use numbers::saturating_sub;
 use raster::Pen;
 use rows::Mix;
 use rows::copy_long_row;
@@ -291,6 +292,14 @@ fn move_left_rows(
     }
 }
 
+// Whether each row is read from the one that was drawn before it. Byte by byte that is faster than by words that overlap.
+fn reads_last_row(up: bool, width: usize, at: usize, from: usize) -> bool {
+    if up {
+        return saturating_sub(from, at) == width;
+    }
+    saturating_sub(at, from) == width
+}
+
 fn move_rows(
     back: bool,
     up: bool,
@@ -310,7 +319,8 @@ fn move_rows(
         move_plain_rows(back, up, width, stride, buffer, at, from, n, rows);
         return;
     }
-    if (8 <= n) & (n <= 16) {
+    let smears = reads_last_row(up, width, at, from);
+    if (8 <= n) & (n <= 16) & !smears {
         move_short_rows(back, up, width, stride, buffer, at, from, n, rows, mix);
         return;
     }

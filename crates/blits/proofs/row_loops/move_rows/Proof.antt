@@ -1,6 +1,7 @@
 -- By the mix, the length and the direction: each branch is the contract of its loop.
 use borrow.Author.Needs.{needs}
 use mathlib.Core.Bool.{true, false}
+use Rattle.lemmas.proofs.Booleans.{and-left}
 use Rattle.rows.proofs.Tests.{between}
 use Rattle.blits.specs.declared.Paint.the-variants.{Moved}
 use Rattle.blits.proofs.Rowed.{in-direction}
@@ -21,11 +22,14 @@ returns c =
     let plain = c .before .before .before .before in
     c .before .before .move-plain-rows .ensures _ (plain .before .is-plain .ensures (plain .if1 .taken))
 
+reads-last-row-requires : tie.Need-reads-last-row-requires
+reads-last-row-requires c κs = search needs
+
 move-short-rows-requires : tie.Need-move-short-rows-requires
 move-short-rows-requires c κs =
     let short = c .before in
-    let start = short .before .before .before .before in
-    let h = between 8 _ 16 (short .if2 .taken) in
+    let start = short .before .before .before .before .before in
+    let h = between 8 _ 16 (and-left _ _ (short .if2 .taken)) in
     (h .0, h .1, start .pre .0, start .pre .1)
 
 same-length-2 : tie.Need-same-length-2
@@ -43,7 +47,7 @@ same-length-3 c = search needs
 returns-3 : tie.Need-returns-3
 returns-3 c =
     let left = c .before .before .before .before in
-    let a = left .before .before .before .before .before .args in
+    let a = left .before .before .before .before .before .before .args in
     λ other.
     in-direction (a .back) true (Moved (a .mix)) (a .up) (a .width) (a .stride) other (a .at) (a .from) (a .n) (a .rows) (a .buffer .now) _ (left .if3 .taken)
     (c .before .before .move-left-rows .ensures other)
@@ -57,7 +61,7 @@ same-length-4 c = search needs
 returns-4 : tie.Need-returns-4
 returns-4 c =
     let right = c .before .before .before .before in
-    let a = right .before .before .before .before .before .args in
+    let a = right .before .before .before .before .before .before .args in
     λ other.
     in-direction (a .back) false (Moved (a .mix)) (a .up) (a .width) (a .stride) other (a .at) (a .from) (a .n) (a .rows) (a .buffer .now) _ (right .if3 .left)
     (c .before .before .move-right-rows .ensures other)
@@ -70,6 +74,7 @@ move-rows-spec =
     move-plain-rows-requires
     same-length
     returns
+    reads-last-row-requires
     move-short-rows-requires
     same-length-2
     returns-2
