@@ -75,7 +75,7 @@ pub(crate) fn draw_short(buffer: &mut [u8], at: usize, n: usize, pen: Pen)
     copy_bytes(buffer, at + z, &last, 0, 8);
 }
 
-// 8 to 16 pixels from another buffer: the first 8 and the last 8 side by side, so that they are mixed by one operation.
+// 8 to 16 pixels from another buffer: the first 8 and the last 8 side by side, all read before any is written.
 pub(crate) fn mix_short(
     buffer: &mut [u8],
     at: usize,
@@ -99,7 +99,7 @@ pub(crate) fn mix_short(
     copy_bytes(buffer, at + z, &new, 8, 8);
 }
 
-// The same from the buffer itself, all read before the first of them is written.
+// The same from the buffer itself.
 pub(crate) fn mix_short_within(buffer: &mut [u8], at: usize, from: usize, n: usize, mix: Mix)
     requires { ⌜ (8 ≤ n) × (n ≤ 16) × (at + n ≤ length (now buffer)) × (from + n ≤ length (now buffer)) ⌝ }
     ensures { λ _. ⌜ now (buffer .exit) ≡ copied (mixed mix) n (now (buffer .entry)) at (now (buffer .entry)) from ⌝ }
