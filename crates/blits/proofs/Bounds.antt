@@ -1,8 +1,8 @@
 -- Bounds of products and sums of coordinates.
 -- Assumes nothing.
-use mathlib.Core.Path.{_≡_}
+use mathlib.Core.Path.{_≡_, ap}
 use Prim.Native.Nat.{ℕ, _+_, _-_, _*_, _^_, _/_, _≤_, _<_}
-use native.Mathlib.Nat.{mul-comm, mul-le-mul, div-add-mod}
+use native.Mathlib.Nat.{mul-comm, mul-le-mul, div-add-mod, mod-lt}
 use native.Mathlib.Omega.{arith}
 use mathlib.Core.Bool.{_&&_}
 use borrow.Author.Tests.{leb-true, leb-false}
@@ -37,6 +37,16 @@ fits-in first n count =
 -- whole rows of a width
 pub div-fits : (n w : ℕ) → w * (n / w) ≤ n
 div-fits n w = omega (arith, div-add-mod n w)
+
+pub div-some : (n w : ℕ) → 0 < w → w ≤ n → 0 < n / w
+div-some n w some h =
+    by-cases (leb (n / w) 0)
+    (λ t.
+    let few = leb-true (n / w) 0 t in
+    let none : n / w ≡ 0 = omega arith in
+    let nothing : w * (n / w) ≡ w * 0 = ap (λ q. w * q) none in
+    absurd (omega (arith, nothing, div-add-mod n w, mod-lt n some)))
+    (λ t. leb-false (n / w) 0 t)
 
 -- the width of a source
 pub source-small : (paint : Paint) (width : ℕ) → width < 2 ^ 32 → sourcePixels paint width < 2 ^ 35

@@ -16,7 +16,7 @@ use Rattle.lemmas.proofs.Turns.{turn-none, turn-agree, turn-idle, turn-part}
 use Rattle.geometry.specs.Coordinates.{origin, pointOf}
 use Rattle.geometry.specs.Blit.{widthOf, bottomToTop, rightToLeft, away}
 use Rattle.lemmas.specs.Sweeps.{sweep}
-use Rattle.blits.specs.Blits.{reads, sourcePixels, sourceWidth, visited, RowFits}
+use Rattle.blits.specs.Blits.{reads, sourcePixels, sourceWidth, visited}
 use Rattle.blits.specs.Ranges.{visibleColumns, visibleRows, partOf}
 use Rattle.blits.specs.Places.{targetRow, sourceRow, leftEdge, placeAt}
 use Rattle.blits.specs.Rows.{rowOf, rowAt, boxOf, RowsFit, BoxFits}
@@ -28,7 +28,7 @@ use Rattle.blits.proofs.Bounds.{source-small, rows-far, x-below, y-belo
 use Rattle.blits.proofs.Visits.{y-from}
 use Rattle.blits.proofs.Axes.{RowIn, row-of, row-by}
 use Rattle.blits.proofs.Drawn.{from-least, past-most, before-from, after-past}
-use Rattle.blits.proofs.Rooms.{edge-below, away-below, Inside, inside-of, none-in-row, none-in-columns, target-room, source-columns, source-room, whole-row}
+use Rattle.blits.proofs.Rooms.{RowFits, edge-below, away-below, Inside, inside-of, none-in-row, none-in-columns, target-room, source-columns, source-room, whole-row}
 
 -- a row of no pixels
 no-pixels : (paint : Paint) (back : Bool) (other : List ℕ) (at from : ℕ) (l : List ℕ) → rowOf paint back other at from 0 l ≡ l

@@ -1,12 +1,15 @@
 -- Rows from bits: a few pixels more, one pixel more, and bits that no visit writes; what the loops over a row keep.
 -- Assumes nothing.
 use mathlib.Core.Path.{_≡_, refl, ap, ap₂, sym, subst, _∙_}
-use mathlib.Core.Bool.{Bool, true, false, cond}
+use mathlib.Core.Bool.{Bool, true, false, cond, _||_}
 use mathlib.Core.List.{List}
 use mathlib.Core.Logic.{_⊎_, inl, inr, ⊎-elim}
 use Prim.Native.Nat.{ℕ, _+_, _-_, _*_, _/_, _%_, _≤_, _<_}
 use native.Mathlib.Omega.{arith}
+use borrow.Author.Tests.{eqb-true}
+use lib.Dec.{eqb}
 use lib.ListN.{length, getD}
+use Rattle.lemmas.proofs.Booleans.{by-cases, or-first}
 use Rattle.lemmas.specs.Sweeps.{sweep}
 use Rattle.lemmas.proofs.Sweeps.{sweep-start, sweep-end, sweep-agree, sweep-join, sweep-stays}
 use Rattle.lemmas.proofs.Orders.{turned-from}
@@ -37,15 +40,6 @@ pub expanded-more : (s : Stipple) (a b n : ℕ) (l m r : List ℕ) (at : ℕ) (s
 expanded-more s a b n l m r at source from bits place start whole here there e g reads =
     more s (λ k. at + k) (λ k w. bitAt source (from + k)) a b n l m r place bits whole e g (λ k p. omega arith)
     (λ k p. let same : start + k ≡ from + (a + k) = omega arith in reads k p ∙ ap (bitAt source) same)
-
--- 8 or 16 pixels
-pub eight-of : (n : ℕ) → (n ≡ 8) ⊎ (n ≡ 16) → 8 ≤ n
-eight-of n (inl e) = omega arith
-eight-of n (inr e) = omega arith
-
-pub only-eight : (n : ℕ) → (n ≡ 8) ⊎ (n ≡ 16) → (n ≡ 16 → ⊥) → 0 + 8 ≡ n
-only-eight n (inl e) h = omega arith
-only-eight n (inr e) h = absurd (h e)
 
 -- one pixel by a bit of the same buffer; `to` and `of` are the places and the bits in the order of the visits
 own-more : (s : Stipple) (to of : ℕ → ℕ) (a : ℕ) (l m r : List ℕ) (bits place start : ℕ) → place ≡ to a → start ≡ of a
@@ -159,6 +153,41 @@ module _ {s : Stipple} {n : ℕ} {l : List ℕ} {at : ℕ} {source : List ℕ} {
   pub expanding-rest : (r : List ℕ) (bits : ℕ) → r ≡ byByte s (n - k) t (at + k) bits
       → ((j : ℕ) → j < n - k → bitIn j bits ≡ bitAt source (8 * i + first + j)) → r ≡ expanded s n l at source (8 * byte + first)
   expanding-rest r bits g reads = expanding-more (n - k) (omega (arith, x .few)) n r bits (omega (arith, x .few)) g reads
+
+-- ---- 8 or 16 pixels
+
+pub narrow-of : (n : ℕ) → (eqb n 8 || eqb n 16) ≡ true → (n ≡ 8) ⊎ (n ≡ 16)
+narrow-of n h = by-cases (eqb n 8) (λ t. inl (eqb-true n 8 t)) (λ t. inr (eqb-true n 16 (or-first (eqb n 8) (eqb n 16) h t)))
+
+pub eight-of : (n : ℕ) → (n ≡ 8) ⊎ (n ≡ 16) → 8 ≤ n
+eight-of n (inl e) = omega arith
+eight-of n (inr e) = omega arith
+
+only-eight : (n : ℕ) → (n ≡ 8) ⊎ (n ≡ 16) → (n ≡ 16 → ⊥) → n ≤ 8
+only-eight n (inl e) h = omega arith
+only-eight n (inr e) h = absurd (h e)
+
+-- eight are drawn, which left t
+module _ (s : Stipple) (n : ℕ) (l : List ℕ) (at : ℕ) (source : List ℕ) (byte first : ℕ) (two : (n ≡ 8) ⊎ (n ≡ 16)) (t : List ℕ) (bits : ℕ)
+    (long : length t ≡ length l) (drawn : t ≡ byByte s 8 l at bits)
+    (read : (j : ℕ) → j < 8 → bitIn j bits ≡ bitAt source (8 * byte + first + j)) where
+  pub eight-drawn : Expanding s n l at source byte first t 8 (byte + 1)
+  eight-drawn =
+      record {
+        few = eight-of n two;
+        long = long;
+        here = omega arith;
+        drawn =
+            expanded-more s 0 8 8 l l t at source (8 * byte + first) bits at (8 * byte + first) refl (omega arith) (omega arith)
+            (sweep-start _ _ l) drawn read;
+      }
+
+  pub eight-only : (n ≡ 16 → ⊥) → t ≡ expanded s n l at source (8 * byte + first)
+  eight-only h = expanding-end eight-drawn (only-eight n two h)
+
+  pub eight-more : n ≡ 16 → (r : List ℕ) (bits′ : ℕ) → length r ≡ length t → r ≡ byByte s 8 t (at + 8) bits′
+      → ((j : ℕ) → j < 8 → bitIn j bits′ ≡ bitAt source (8 * (byte + 1) + first + j)) → r ≡ expanded s n l at source (8 * byte + first)
+  eight-more e r bits′ same g reads = expanding-end (expanding-turn eight-drawn r bits′ (omega arith) same g reads) (omega arith)
 
 -- ---- one pixel a turn
 

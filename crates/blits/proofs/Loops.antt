@@ -1,10 +1,10 @@
--- Visits row after row: what their loop keeps, whole rows and the rest, and the tests before them.
+-- Visits row after row: those that are drawn at once, what their loop keeps, and the tests before them.
 -- Assumes nothing.
 use mathlib.Core.Path.{_≡_, refl, ap, sym, _∙_}
 use mathlib.Core.Bool.{true, false, cond, _&&_}
 use mathlib.Core.List.{List}
 use Prim.Native.Nat.{ℕ, suc, _+_, _-_, _*_, _/_, _%_, _≤_, _<_, min}
-use native.Mathlib.Nat.{add-assoc, mul-add, mul-one, mul-le-mul-left, div-add-mod, mod-lt}
+use native.Mathlib.Nat.{add-assoc, mul-add, mul-suc, mul-comm, mul-le-mul-left, div-add-mod, mod-lt}
 use native.Mathlib.Omega.{arith}
 use borrow.Author.Tests.{leb-true, leb-false, eqb-true}
 use lib.Dec.{leb, eqb}
@@ -13,9 +13,11 @@ use Rattle.lemmas.proofs.Booleans.{by-cases, and-left, and-right}
 use Rattle.geometry.specs.Blit.{widthOf, heightOf, blitCount}
 use Rattle.geometry.proofs.Blits.{factor-pos, count-lt}
 use Rattle.lemmas.specs.Turns.{inTurn}
-use Rattle.blits.specs.Blits.{visited, windowInside, blitFits, blitted, Fitting, RowFits, WholeRows}
+use Rattle.blits.specs.Blits.{visited, windowInside, blitFits, blitted, Fitting, AtOnce}
 use Rattle.blits.specs.declared.Blit.{Blit}
 use Rattle.lemmas.proofs.Turns.{turn-none, turn-end, turn-join, turn-agree}
+use Rattle.blits.proofs.Bounds.{div-fits, div-some}
+use Rattle.blits.proofs.Rooms.{RowFits}
 
 pub fitting-of : (b : Blit) (first n other own : ℕ) → blitFits b first n other own ≡ true → Fitting b first n other own
 fitting-of b first n other own h =
@@ -45,21 +47,10 @@ stands-first : (w first : ℕ) → 0 < w → Stands w first 0 (first / w) (first
 stands-first w first h =
     record { here = (let e : first + 0 ≡ first = omega arith in e) ∙ sym (div-add-mod first w); short = mod-lt first h }
 
-stands-next : (w first n k row column m : ℕ) → m ≡ min (n - k) (w - column) → k + m < n → Stands w first k row column
-    → Stands w first (k + m) (row + 1) 0
-stands-next w first n k row column m e h s =
-    let rest : m ≡ w - column = whole n k w column m e h in
-    record { here = next w row column (w * row) first k m (s .here) (s .short) rest (mul-add w row 1) (mul-one w); short = positive column w (s .short) }
-  where
-    whole : (n k w column m : ℕ) → m ≡ min (n - k) (w - column) → k + m < n → m ≡ w - column
-    whole n k w column m e h = omega arith
-
-    positive : (c w : ℕ) → c < w → 0 < w
-    positive c w h = omega arith
-
-    next : (w row column p first k m : ℕ) → first + k ≡ p + column → column < w → m ≡ w - column → w * (row + 1) ≡ p + w * 1 → w * 1 ≡ w
-        → first + (k + m) ≡ w * (row + 1) + 0
-    next w row column p first k m e h r q o = omega (arith, e, h, r, q, o)
+stands-next : (w first n k row column m rows : ℕ) → AtOnce w column m (n - k) rows → k + m * rows < n → Stands w first k row column
+    → Stands w first (k + m * rows) (row + rows) 0
+stands-next w first n k row column m rows q h s =
+    record { here = omega (arith, s .here, mul-add w row rows, q .ended (omega arith)); short = omega (arith, s .short) }
 
 pub row-below : (w h k r c : ℕ) → k < w * h → k ≡ w * r + c → r < h
 row-below w h k r c l e =
@@ -68,20 +59,62 @@ row-below w h k r c l e =
     let far = leb-false (suc r) h t in
     absurd (omega (arith, l, e, mul-le-mul-left {m = h} {n = r} w (omega (arith, far)))))
 
-row-fits : (b : Blit) (first n k row column m : ℕ) (other own : ℕ) → b .size < 4294967296 → Fitting b first n other own → k < n
-    → Stands (widthOf (b .size)) first k row column → m ≡ min (n - k) (widthOf (b .size) - column) → RowFits b row column m other own
-row-fits b first n k row column m other own small f h s e =
+-- m visits from column c on in each of so many rows from `row` on, one after the other
+pub record PartFits (b : Blit) (row rows c m other own : ℕ) : Type 0 where
+  pub some : 0 < rows
+  pub even : (k : ℕ) → k < rows → widthOf (b .size) * k ≡ m * k
+  pub each : (r : ℕ) → row ≤ r → r < row + rows → RowFits b r c m other own
+
+-- one row, or whole rows, of those that are left
+pub one-at-once : (w c m left : ℕ) → c < w → m ≡ min left (w - c) → AtOnce w c m left 1
+one-at-once w c m left h e =
     record {
-      size-small = small;
-      row-small = omega (arith, small, row-below (widthOf (b .size)) (heightOf (b .size)) (first + k) row column (omega (arith, f .visits, h)) (s .here));
-      columns = within (widthOf (b .size)) (n - k) column m e (s .short);
-      own-area = f .own-area;
-      other-area = f .other-area;
-      inside = f .inside;
+      some = omega arith;
+      fit = omega arith;
+      even = λ k p. (let none : k ≡ 0 = omega arith in rw none (omega arith));
+      ended = λ p. omega arith;
     }
-  where
-    within : (w left column m : ℕ) → m ≡ min left (w - column) → column < w → column + m ≤ w
-    within w left column m e h = omega arith
+
+pub rows-at-once : (w c m left : ℕ) → c < w → m ≡ min left (w - c) → w ≤ m → AtOnce w c m left (left / w)
+rows-at-once w c m left h e l =
+    let whole : m ≡ w = omega arith in
+    let start : c ≡ 0 = omega arith in
+    record {
+      some = div-some left w (omega arith) (omega arith);
+      fit = rw whole (div-fits left w);
+      even = λ k p. ap (λ m. m * k) (sym whole);
+      ended = λ p. rw (whole, start) (omega arith);
+    }
+
+-- all visits of a blit
+pub whole-part : (b : Blit) (first n other own : ℕ) → 0 < blitCount (b .size) → b .size < 4294967296 → Fitting b first n other own
+    → PartFits b 0 (heightOf (b .size)) 0 (widthOf (b .size)) other own
+whole-part b first n other own some small f =
+    record {
+      some = factor-pos (heightOf (b .size)) (widthOf (b .size)) 0 (omega (arith, some, mul-comm (widthOf (b .size)) (heightOf (b .size))));
+      even = λ k p. refl;
+      each =
+          λ r p q. record {
+            size-small = small;
+            row-small = omega arith;
+            columns = omega arith;
+            own-area = f .own-area;
+            other-area = f .other-area;
+            inside = f .inside;
+          };
+    }
+
+pub whole-fitting : (b : Blit) (first n other own : ℕ) → Fitting b first n other own → Fitting b 0 (blitCount (b .size)) other own
+whole-fitting b first n other own f =
+    record { own-area = f .own-area; other-area = f .other-area; inside = f .inside; visits = omega arith }
+
+pub whole-first : (b : Blit) (first n : ℕ) (other l k : List ℕ) → n ≡ blitCount (b .size) → first + n ≤ blitCount (b .size)
+    → k ≡ inTurn (visited b other) (blitCount (b .size)) l → k ≡ inTurn (λ i. visited b other (first + i)) n l
+whole-first b first n other l k all fit e =
+    e
+    ∙ turn-agree (visited b other) (λ i. visited b other (first + i)) (blitCount (b .size)) l
+    (λ i p t. let same : i ≡ first + i = omega (arith, all, fit) in ap (λ j. visited b other j t) same)
+    ∙ ap (λ n. inTurn (λ i. visited b other (first + i)) n l) (sym all)
 
 pub no-visits : (b : Blit) (first n : ℕ) (other l : List ℕ) → n ≡ 0 → l ≡ inTurn (λ i. visited b other (first + i)) n l
 no-visits b first n other l e = turn-none (λ i. visited b other (first + i)) l ∙ ap (λ n. inTurn (λ i. visited b other (first + i)) n l) (sym e)
@@ -125,61 +158,62 @@ module _ {b : Blit} {other : List ℕ} {first n : ℕ} {l t : List ℕ} {row col
   pub visiting-end : n ≤ k → t ≡ inTurn (λ i. visited b other (first + i)) n l
   visiting-end h = turn-end (λ i. visited b other (first + i)) l k n t (v .few) h (v .done)
 
-  -- the m visits up to the row's end, or up to the last visit
-  module _ (h : k < n) (m : ℕ) (e : m ≡ min (n - k) (widthOf (b .size) - column)) where
-    pub visiting-row : RowFits b row column m (length other) (length t)
-    visiting-row =
-        rw (v .long) (row-fits b first n k row column m (length other) (length l) (v .small) (v .fits) h (v .stands h) e)
+  -- the next visits, m in each of so many rows
+  module _ (h : k < n) (m rows : ℕ) (e : m ≡ min (n - k) (widthOf (b .size) - column))
+      (q : AtOnce (widthOf (b .size)) column m (n - k) rows) where
+    visiting-some : 0 < m
+    visiting-some = omega (arith, v .stands h .short)
 
-    pub visiting-more : (0 < m) × (k + m ≤ n)
-    visiting-more = (omega (arith, v .stands h .short), omega arith)
+    -- each row of them ends before they do
+    row-ends : (j : ℕ) → j < rows → m * j + m ≤ m * rows
+    row-ends j p = omega (arith, mul-suc m j, mul-le-mul-left {m = suc j} {n = rows} m (omega (arith, p)))
 
-    pub visiting-turn : (u : List ℕ) → length u ≡ length t → u ≡ inTurn (λ i. visited b other (widthOf (b .size) * row + column + i)) m t
-        → Visiting b other first n l u (row + 1) 0 (k + m)
+    pub visiting-more : (0 < m * rows) × (k + m * rows ≤ n)
+    visiting-more = (omega (arith, visiting-some, row-ends 0 (q .some)), omega (arith, q .fit))
+
+    next-row : (j : ℕ) → j < rows → row + j < heightOf (b .size)
+    next-row j p =
+        let w = widthOf (b .size) in
+        row-below w (heightOf (b .size)) (w * (row + j) + column) (row + j) column
+        (omega (arith, v .stands h .here, mul-add w row j, q .even j p, row-ends j p, visiting-some, q .fit, v .fits .visits)) refl
+
+    pub visiting-narrow : column + m ≤ 65536
+    visiting-narrow = omega (arith, e, v .stands h .short, v .small)
+
+    pub visiting-low : row + rows ≤ 65536
+    visiting-low = omega (arith, next-row (rows - 1) (omega (arith, q .some)), q .some)
+
+    pub visiting-part : PartFits b row rows column m (length other) (length t)
+    visiting-part =
+        record {
+          some = q .some;
+          even = q .even;
+          each =
+              λ r low high.
+              let j = r - row in
+              let here : row + j ≡ r = omega arith in
+              record {
+                size-small = v .small;
+                row-small = omega (arith, v .small, next-row j (omega arith), here);
+                columns = omega (arith, e, v .stands h .short);
+                own-area = v .long ∙ v .fits .own-area;
+                other-area = v .fits .other-area;
+                inside = v .fits .inside;
+              };
+        }
+
+    pub visiting-turn : (u : List ℕ) → length u ≡ length t
+        → u ≡ inTurn (λ i. visited b other (widthOf (b .size) * row + column + i)) (m * rows) t → Visiting b other first n l u
+        (row + rows) 0 (k + m * rows)
     visiting-turn u s g =
         record {
           few = visiting-more .1;
           long = s ∙ v .long;
           fits = v .fits;
           small = v .small;
-          stands = λ q. stands-next (widthOf (b .size)) first n k row column m e q (v .stands h);
-          done = visits-more b other l t u first k (widthOf (b .size) * row + column) m (v .done) (v .stands h .here) g;
+          stands = λ p. stands-next (widthOf (b .size)) first n k row column m rows q p (v .stands h);
+          done = visits-more b other l t u first k (widthOf (b .size) * row + column) (m * rows) (v .done) (v .stands h .here) g;
         }
-
--- whole rows, and the rest
-module _ (b : Blit) (first n r : ℕ) (q : WholeRows (b .size) first n r) where
-  abbrev done : ℕ
-  done = widthOf (b .size) * r
-
-  pub whole-fits : (other own : ℕ) → Fitting b first n other own → Fitting b 0 done other own
-  whole-fits other own f =
-      record { own-area = f .own-area; other-area = f .other-area; inside = f .inside; visits = omega (arith, f .visits, q .fit) }
-
-  pub rest-fits : (other own own′ : ℕ) → own′ ≡ own → Fitting b first n other own → Fitting b (first + done) (n - done) other own′
-  rest-fits other own own′ e f =
-      record { own-area = e ∙ f .own-area; other-area = f .other-area; inside = f .inside; visits = omega (arith, f .visits, q .fit) }
-
-  pub whole-first : (other l k : List ℕ) → k ≡ inTurn (visited b other) done l → k ≡ inTurn (λ i. visited b other (first + i)) done l
-  whole-first other l k e =
-      by-cases (leb r 0)
-      (λ t.
-      let h = leb-true r 0 t in
-      let zero-rows : r ≡ 0 = omega arith in
-      let none : done ≡ 0 = ap (λ r. widthOf (b .size) * r) zero-rows ∙ (let p : widthOf (b .size) * 0 ≡ 0 = omega arith in p) in
-      e ∙ ap (λ n. inTurn (visited b other) n l) none ∙ sym (turn-none (visited b other) l) ∙ no-visits b first done other l none)
-      (λ t.
-      let h = leb-false r 0 t in
-      let start : first ≡ 0 = q .start (omega arith) in
-      e
-      ∙ turn-agree (visited b other) (λ i. visited b other (first + i)) done l
-      (λ i p t. let same : i ≡ first + i = omega (arith, start) in ap (λ j. visited b other j t) same))
-
-  pub and-rest : (other l k₁ k₂ : List ℕ) → k₁ ≡ inTurn (visited b other) done l
-      → k₂ ≡ inTurn (λ i. visited b other (first + done + i)) (n - done) k₁ → k₂ ≡ inTurn (λ i. visited b other (first + i)) n l
-  and-rest other l k₁ k₂ e g =
-      let all : done + (n - done) ≡ n = omega (arith, q .fit) in
-      visits-more b other l k₁ k₂ first done (first + done) (n - done) (whole-first other l k₁ e) refl g
-      ∙ ap (λ n. inTurn (λ i. visited b other (first + i)) n l) all
 
 -- a blit by the tests that it passes
 pub blit-out : (b : Blit) (first n : ℕ) (other l : List ℕ) → blitFits b first n (length other) (length l) ≡ false → l ≡ blitted b first n other l

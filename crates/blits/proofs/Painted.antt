@@ -7,11 +7,12 @@ use Prim.Native.Nat.{ℕ, _+_, _≤_}
 use native.Mathlib.Omega.{arith}
 use lib.ListN.{length, getD}
 use Rattle.raster.specs.declared.Pen.{Pen}
-use Rattle.rows.specs.Rows.{mixed, filledRow, copiedRow, movedRow, movedBackRow}
+use Rattle.rows.specs.Rows.{mixed, filledRow, copiedRow, movedRow, movedBackRow, shiftedRow, Plain}
 use Rattle.rows.specs.declared.Mix.{Mix}
 use Rattle.lemmas.proofs.Orders.{turned-from}
 use Rattle.rows.proofs.Orders.{fill-turned, copy-turned}
-use Rattle.rows.proofs.Fitting.{filled-row, copied-row, moved-row, moved-back-row}
+use Rattle.rows.proofs.Mixing.{mixed-plain}
+use Rattle.rows.proofs.Fitting.{filled-row, copied-row, moved-row, moved-back-row, shifted-row}
 use Rattle.stipples.specs.Stipples.{bitAt, stippled}
 use Rattle.stipples.specs.declared.Stipple.{Stipple}
 use Rattle.blits.specs.Blits.{painted, reads, sourcePixels}
@@ -33,6 +34,13 @@ copied-from false mix other l r at from n h k e = e ∙ sym (copied-row mix n l 
 copied-from true mix other l r at from n h k e =
     e ∙ sym (copied-row mix n l at other from h k) ∙ sym (copy-turned (mixed mix) n l at other from)
 
+-- a mix of which every new byte is the source byte
+abbrev pub straight : Mix
+straight = record { selectors = record { both = 0; old = 0; source = 255; none = 0 }; keyed = false; key = 0 }
+
+pub straight-plain : Plain (mixed straight)
+straight-plain = mixed-plain straight refl refl refl refl refl
+
 pub moved-right : (back : Bool) (mix : Mix) (l r : List ℕ) (at from n : ℕ) → back ≡ false → at + n ≤ length l → from + n ≤ length l
     → r ≡ movedRow mix n l at from → (other : List ℕ) → r ≡ rowOf (Moved mix) back other at from n l
 unfolding rowOf
@@ -44,6 +52,12 @@ pub moved-left : (back : Bool) (mix : Mix) (l r : List ℕ) (at from n : ℕ) �
 unfolding rowOf
 moved-left back mix l r at from n b h k e other =
     e ∙ sym (moved-back-row mix n l (at + n) (from + n) (omega arith) (omega arith) h k) ∙ ap (λ b. rowOf (Moved mix) b other at from n l) (sym b)
+
+pub shifted-from : (back : Bool) (mix : Mix) (l r : List ℕ) (at from n : ℕ) → at + n ≤ length l → from + n ≤ length l
+    → r ≡ shiftedRow back mix n l at from → (other : List ℕ) → r ≡ rowOf (Moved mix) back other at from n l
+unfolding rowOf
+shifted-from false mix l r at from n h k e other = e ∙ sym (shifted-row false mix n l at from h k)
+shifted-from true mix l r at from n h k e other = e ∙ sym (shifted-row true mix n l at from h k)
 
 pub stippled-from : (back : Bool) (s : Stipple) (other l r : List ℕ) (at from n : ℕ) → r ≡ expanded s n l at other from
     → r ≡ rowOf (Stippled s) back other at from n l

@@ -24,8 +24,8 @@ use Rattle.rows.proofs.Fitting.{copied-row}
 use Rattle.tiles.specs.Tiles.{noRow, pixelOf, doubledOf}
 use Rattle.tiles.specs.declared.Tile.{Tile}
 use Rattle.tiles.proofs.Doubling.{rows-twice}
-use Rattle.blits.specs.Blits.{visited, windowInside, blitFits, Fitting, RowFits, WholeRows}
-use Rattle.blits.specs.Ranges.{rangeOf, visibleRange, visibleColumns, visibleRows, visibleOf, partOf}
+use Rattle.blits.specs.Blits.{visited, windowInside, blitFits, Fitting}
+use Rattle.blits.specs.Ranges.{rangeOf, windowRanges, visibleRange, visibleColumns, visibleRows, visibleOf, partOf}
 use Rattle.blits.specs.Places.{leftEdge, placeAt}
 use Rattle.blits.specs.Rows.{rowOf, boxOf, RowsFit}
 use Rattle.blits.specs.Tiled.{planeOf, copyOf, Doubled, TileRows, TileBox}
@@ -40,8 +40,8 @@ use Rattle.blits.proofs.Painted.{copied-from}
 use Rattle.blits.proofs.Rooms.{away-below, Inside, inside-of}
 use Rattle.blits.proofs.Rowed.{on-from, Rowed, rowed-start, rowed-turn, row-inside, source-inside}
 use Rattle.blits.proofs.Boxes.{row-on}
-use Rattle.blits.proofs.Loops.{across-some, whole-fits, whole-first}
-use Rattle.blits.proofs.RowBoxes.{row-box-fits, row-box-inside, whole-box-fits, whole-box-inside, whole-box-visits}
+use Rattle.blits.proofs.Loops.{PartFits, whole-part, whole-first}
+use Rattle.blits.proofs.RowBoxes.{part-fits, part-inside, part-visits, whole-visits}
 
 -- ---- the buffer that a tile covers
 pub plane-long : (width height : ℕ) (tile : Tile) → length (planeOf width height tile) ≡ width * height
@@ -192,22 +192,22 @@ module _ {q : Selectors} {width to direction : ℕ} {across down : Range} {wide 
           lines = lines-far;
         }
 
--- a box of visible pixels of one row
+-- a box of visible pixels
 module _ (t : Tiling) {wide : List ℕ} (d : Doubled wide) where
   abbrev pub plane : List ℕ
   plane = planeOf (t .width) (t .height) (d .tile)
 
-  abbrev pub row-tile : {row c m own : ℕ} (f : RowFits (copyOf t) row c m (length plane) own)
+  abbrev pub part-tile : {row rows c m own : ℕ} (f : PartFits (copyOf t) row rows c m (length plane) own)
       {visible : Visible} (same : visible ≡ visibleOf (copyOf t)) {across down : Range}
-      (of-columns : across ≡ partOf (visible .columns) c m) (of-rows : down ≡ partOf (visible .rows) row 1) → t .width < 4294967296
+      (of-columns : across ≡ partOf (visible .columns) c m) (of-rows : down ≡ partOf (visible .rows) row rows) → t .width < 4294967296
       → TileBox (t .selectors) (t .width) (t .to) (t .direction) across down wide own
-  row-tile f same of-columns of-rows small =
+  part-tile f same of-columns of-rows small =
       record {
         tile = d .tile;
         height = t .height;
         twice = d .twice;
-        fits = row-box-fits plane f same of-columns of-rows small;
-        inside = row-box-inside plane f same of-columns of-rows refl;
+        fits = part-fits (copyOf t) plane f same of-columns of-rows small;
+        inside = part-inside (copyOf t) plane f same of-columns of-rows refl;
       }
 
 -- ---- what is visible, and the tests
@@ -239,14 +239,8 @@ module _ (t : Tiling) (h : windowInside (t .width) (t .height) (t .window) ≡ t
       shown-range (bottomToTop (t .direction)) (pointOf (t .to) .y) (t .window .top) (t .window .bottom) (t .height) (inside .top-in)
       (inside .bottom-in)
 
-  pub shown-by : (c : Point) → c ≡ pointOf (t .to) → (columns rows : Range)
-      → columns ≡ rangeOf (rightToLeft (t .direction)) (c .x) (t .window .left) (t .window .right)
-      → rows ≡ rangeOf (bottomToTop (t .direction)) (c .y) (t .window .top) (t .window .bottom)
-      → _≡_ {A = Visible} (record { columns = columns; rows = rows }) (visibleOf (copyOf t))
-  shown-by c e columns rows p q =
-      let first = p ∙ ap (λ c. rangeOf (rightToLeft (t .direction)) (c .x) (t .window .left) (t .window .right)) e ∙ shown-columns in
-      let second = q ∙ ap (λ c. rangeOf (bottomToTop (t .direction)) (c .y) (t .window .top) (t .window .bottom)) e ∙ shown-rows in
-      λ i. record { columns = first i; rows = second i }
+  pub shown-by : windowRanges (t .window) (t .to) (t .direction) ≡ visibleOf (copyOf t)
+  shown-by = λ i. record { columns = shown-columns i; rows = shown-rows i }
 
 module _ (t : Tiling) (tile : Tile) (first n own : ℕ) where
   -- the buffer that the tile covers has the size that it needs
@@ -267,33 +261,16 @@ module _ (t : Tiling) (tile : Tile) (first n own : ℕ) where
 
 -- all visits of a blit, as one box
 module _ (t : Tiling) {wide : List ℕ} (d : Doubled wide) (first n own : ℕ) (f : Fitting (copyOf t) first n own own) (some : 0 < n)
-    (all : n ≡ blitCount (t .size)) (small : t .size < 4294967296) {visible : Visible} (same : visible ≡ visibleOf (copyOf t))
-    {across down : Range} (of-columns : across ≡ partOf (visible .columns) 0 (widthOf (t .size)))
-    (of-rows : down ≡ partOf (visible .rows) 0 (heightOf (t .size))) where
-  all-rows : WholeRows (t .size) first n (heightOf (t .size))
-  all-rows = record { fit = omega (arith, all); start = λ _. omega (arith, all, f .visits) }
+    (all : n ≡ blitCount (t .size)) (small : t .size < 4294967296) where
+  pub all-part : PartFits (copyOf t) 0 (heightOf (t .size)) 0 (widthOf (t .size)) (length (plane t d)) own
+  all-part =
+      whole-part (copyOf t) first n (length (plane t d)) own (omega (arith, some, all)) small (plane-fitting t (d .tile) first n own f)
 
-  pub all-fitting : Fitting (copyOf t) 0 (blitCount (t .size)) (length (plane t d)) own
-  all-fitting =
-      whole-fits (copyOf t) first n (heightOf (t .size)) all-rows (length (plane t d)) own (plane-fitting t (d .tile) first n own f)
-
-  pub all-columns : 0 < widthOf (t .size)
-  all-columns = across-some (copyOf t) first n own own f some
-
-  abbrev pub all-tile : t .width < 4294967296 → TileBox (t .selectors) (t .width) (t .to) (t .direction) across down wide own
-  all-tile narrow =
-      record {
-        tile = d .tile;
-        height = t .height;
-        twice = d .twice;
-        fits = whole-box-fits (copyOf t) (plane t d) (heightOf (t .size)) own all-columns small all-fitting same of-columns of-rows narrow;
-        inside = whole-box-inside (copyOf t) (plane t d) (heightOf (t .size)) own all-columns small all-fitting same of-columns of-rows refl;
-      }
-
-  pub all-visits : (l k : List ℕ)
+  pub all-visits : {visible : Visible} (same : visible ≡ visibleOf (copyOf t)) {across down : Range}
+      (of-columns : across ≡ partOf (visible .columns) 0 (widthOf (t .size)))
+      (of-rows : down ≡ partOf (visible .rows) 0 (heightOf (t .size))) (l k : List ℕ)
       → k ≡ boxOf (Copied (unkeyed (t .selectors))) (t .width) (t .to) (t .to) (t .direction) across down (plane t d) l
       → k ≡ inTurn (λ i. visited (copyOf t) (plane t d) (first + i)) n l
-  all-visits l k e =
-      whole-first (copyOf t) first n (heightOf (t .size)) all-rows (plane t d) l k
-      (whole-box-visits (copyOf t) (plane t d) (heightOf (t .size)) own all-columns small all-fitting same of-columns of-rows l k e)
-      ∙ ap (λ n. inTurn (λ i. visited (copyOf t) (plane t d) (first + i)) n l) (sym all)
+  all-visits same of-columns of-rows l k e =
+      whole-first (copyOf t) first n (plane t d) l k all (f .visits)
+      (whole-visits (copyOf t) (plane t d) l k (part-visits (copyOf t) (plane t d) all-part same of-columns of-rows l k e))

@@ -15,7 +15,7 @@ use Rattle.geometry.specs.Blit.{widthOf, rightToLeft, away}
 use Rattle.geometry.specs.declared.Window.{Window}
 use Rattle.geometry.proofs.Clips.{area}
 use Rattle.lemmas.specs.Turns.{inTurn}
-use Rattle.blits.specs.Blits.{reads, sourcePixels, sourceWidth, visited, windowInside, RowFits}
+use Rattle.blits.specs.Blits.{reads, sourcePixels, sourceWidth, visited, windowInside}
 use Rattle.blits.specs.Ranges.{visibleColumns}
 use Rattle.blits.specs.Places.{targetRow, sourceRow, leftEdge, placeAt}
 use Rattle.blits.specs.Rows.{rowOf}
@@ -79,6 +79,15 @@ inside-of width height w h =
       top-in = leb-true origin (w .top) (and-right (l && r) t three);
       bottom-in = leb-true (w .bottom) (origin + height) (and-right (l && r && t) b h);
     }
+
+-- what m visits of row r from column c on need
+pub record RowFits (b : Blit) (r c m other own : ℕ) : Type 0 where
+  pub size-small : b .size < 4294967296
+  pub row-small : r < 65536
+  pub columns : c + m ≤ widthOf (b .size)
+  pub own-area : own ≡ b .width * b .height
+  pub other-area : other ≡ b .width * b .height
+  pub inside : windowInside (b .width) (b .height) (b .window) ≡ true
 
 module _ (b : Blit) (other : List ℕ) (r c m own : ℕ) (f : RowFits b r c m (length other) own) (a z : ℕ)
     (begins : a ≡ max c (visibleColumns b .from)) (stops : z ≡ min (c + m) (visibleColumns b .past)) where

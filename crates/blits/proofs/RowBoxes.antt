@@ -1,114 +1,118 @@
--- m visits of one row, and whole rows from the first on, as boxes.
+-- Visits that are drawn at once, as boxes.
 -- Assumes nothing.
-use mathlib.Core.Path.{_≡_, refl, ap, sym, subst, _∙_}
-use mathlib.Core.Bool.{true}
+use mathlib.Core.Path.{_≡_, ap, sym, _∙_}
+use mathlib.Core.Bool.{true, false, false≢true}
 use mathlib.Core.List.{List}
-use Prim.Native.Nat.{ℕ, suc, _+_, _-_, _*_, _≤_, _<_}
-use native.Mathlib.Nat.{mul-suc, mul-le-mul-left}
+use Prim.Native.Nat.{ℕ, _+_, _-_, _*_, _<_}
+use native.Mathlib.Nat.{mul-add}
 use native.Mathlib.Omega.{arith}
-use borrow.Author.Tests.{leb-true, leb-false}
-use lib.Dec.{leb}
 use lib.ListN.{length}
-use Rattle.lemmas.proofs.Booleans.{by-cases}
 use Rattle.lemmas.specs.Turns.{inTurn}
-use Rattle.lemmas.proofs.Turns.{turn-none, turn-more, turn-agree, turn-rows}
-use Rattle.geometry.specs.Blit.{widthOf, heightOf}
-use Rattle.blits.specs.Blits.{reads, sourceWidth, visited, Fitting, RowFits}
-use Rattle.blits.specs.Ranges.{visibleColumns, visibleRows, visibleOf, partOf}
+use Rattle.lemmas.proofs.Turns.{turn-agree, turn-rows}
+use Rattle.geometry.specs.Coordinates.{pointOf}
+use Rattle.geometry.specs.Blit.{widthOf, heightOf, blitCount, bottomToTop, rightToLeft}
+use Rattle.raster.specs.declared.Pen.{Pen}
+use Rattle.blits.specs.Blits.{reads, sourceWidth, visited, Fitting}
+use Rattle.blits.specs.Ranges.{windowRanges, visibleRange, visibleColumns, visibleRows, visibleOf, partOf}
 use Rattle.blits.specs.Rows.{boxOf, BoxFits}
 use Rattle.blits.specs.Tiled.{BoxInside}
 use Rattle.blits.specs.declared.Blit.{Blit}
+use Rattle.blits.specs.declared.Paint.the-variants.{Solid}
 use Rattle.blits.specs.declared.ranges.Range.{Range}
 use Rattle.blits.specs.declared.ranges.Visible.{Visible}
-use Rattle.blits.proofs.Loops.{row-below}
+use Rattle.blits.proofs.Loops.{PartFits, whole-part}
 use Rattle.blits.proofs.Drawn.{past-most}
-use Rattle.blits.proofs.Rooms.{z-small}
+use Rattle.blits.proofs.Rooms.{RowFits, z-small}
 use Rattle.blits.proofs.Boxes.{box-fits, box-inside, box-visits}
 
--- m visits of one row
-module _ {b : Blit} (other : List ℕ) {row c m own : ℕ} (f : RowFits b row c m (length other) own) {visible : Visible} (same : visible ≡ visibleOf b)
-    {across down : Range} (of-columns : across ≡ partOf (visible .columns) c m) (of-rows : down ≡ partOf (visible .rows) row 1) where
-  row-columns : across ≡ partOf (visibleColumns b) c m
-  row-columns = of-columns ∙ ap (λ v. partOf (v .columns) c m) same
+module _ (b : Blit) (other : List ℕ) {row rows c m own : ℕ} (f : PartFits b row rows c m (length other) own) {visible : Visible}
+    (same : visible ≡ visibleOf b) {across down : Range} (of-columns : across ≡ partOf (visible .columns) c m)
+    (of-rows : down ≡ partOf (visible .rows) row rows) where
+  part-columns : across ≡ partOf (visibleColumns b) c m
+  part-columns = of-columns ∙ ap (λ v. partOf (v .columns) c m) same
 
-  row-lines : down ≡ partOf (visibleRows b) row 1
-  row-lines = of-rows ∙ ap (λ v. partOf (v .rows) row 1) same
+  part-lines : down ≡ partOf (visibleRows b) row rows
+  part-lines = of-rows ∙ ap (λ v. partOf (v .rows) row rows) same
 
-  only-row : (r : ℕ) → row ≤ r → r < row + 1 → RowFits b r c m (length other) own
-  only-row r p q = let e : row ≡ r = omega arith in subst (λ r. RowFits b r c m (length other) own) e f
+  first-row : RowFits b row c m (length other) own
+  first-row = f .each row (omega arith) (omega (arith, f .some))
 
-  pub row-box-fits : b .width < 4294967296
+  last-row : RowFits b (row + rows - 1) c m (length other) own
+  last-row = f .each (row + rows - 1) (omega (arith, f .some)) (omega (arith, f .some))
+
+  pub part-fits : b .width < 4294967296
       → BoxFits (b .paint) (b .width) (b .to) (b .from) (b .direction) across down (length other) own
-  row-box-fits wide =
-      box-fits b other row 1 c m own only-row across down row-columns row-lines wide
-      (omega (arith, past-most (row + 1) (visibleRows b .past) (down .past) (ap (λ s. s .past) row-lines) .0, f .row-small))
-      (z-small b other row c m own f (across .from) (across .past) (ap (λ s. s .from) row-columns) (ap (λ s. s .past) row-columns))
-      (f .other-area ∙ sym (f .own-area))
+  part-fits wide =
+      box-fits b other row rows c m own (f .each) across down part-columns part-lines wide
+      (omega (arith, past-most (row + rows) (visibleRows b .past) (down .past) (ap (λ s. s .past) part-lines) .0, last-row .row-small))
+      (z-small b other row c m own first-row (across .from) (across .past) (ap (λ s. s .from) part-columns)
+      (ap (λ s. s .past) part-columns))
+      (first-row .other-area ∙ sym (first-row .own-area))
 
-  pub row-box-inside : reads (b .paint) ≡ true → BoxInside (sourceWidth b) (b .height) (b .from) (b .direction) across down
-  row-box-inside = box-inside b other row 1 c m own only-row across down row-columns row-lines
+  pub part-inside : reads (b .paint) ≡ true → BoxInside (sourceWidth b) (b .height) (b .from) (b .direction) across down
+  part-inside = box-inside b other row rows c m own (f .each) across down part-columns part-lines
 
-  pub row-box-visits : (l k : List ℕ) → k ≡ boxOf (b .paint) (b .width) (b .to) (b .from) (b .direction) across down other l
-      → k ≡ inTurn (λ i. visited b other (widthOf (b .size) * row + c + i)) m l
-  row-box-visits l k e =
-      let visits : ℕ → List ℕ → List ℕ = λ r. inTurn (λ i. visited b other (widthOf (b .size) * r + c + i)) m in
-      let same : row + 0 ≡ row = omega arith in
-      e ∙ box-visits b other row 1 c m own only-row across down row-columns row-lines l
-      ∙ sym (turn-more (λ k. visits (row + k)) l 0 l (visits (row + 0) l) (turn-none (λ k. visits (row + k)) l) refl) ∙ ap (λ r. visits r l) same
+  pub part-visits : (l k : List ℕ) → k ≡ boxOf (b .paint) (b .width) (b .to) (b .from) (b .direction) across down other l
+      → k ≡ inTurn (λ i. visited b other (widthOf (b .size) * row + c + i)) (m * rows) l
+  part-visits l k e =
+      let w = widthOf (b .size) in
+      e ∙ box-visits b other row rows c m own (f .each) across down part-columns part-lines l
+      ∙ turn-agree (λ r. inTurn (λ i. visited b other (w * (row + r) + c + i)) m)
+      (λ r. inTurn (λ i. visited b other (w * row + c + (m * r + i))) m) rows l
+      (λ r h t.
+      turn-agree (λ i. visited b other (w * (row + r) + c + i)) (λ i. visited b other (w * row + c + (m * r + i))) m t
+      (λ i p u.
+      let here : w * (row + r) + c + i ≡ w * row + c + (m * r + i) = omega (arith, mul-add w row r, f .even r h) in
+      ap (λ j. visited b other j u) here))
+      ∙ turn-rows (λ j. visited b other (w * row + c + j)) m rows l
 
--- whole rows from the first on
-module _ (b : Blit) (other : List ℕ) (rows own : ℕ) (some : 0 < widthOf (b .size)) (small : b .size < 4294967296)
-    (f : Fitting b 0 (widthOf (b .size) * rows) (length other) own) {visible : Visible} (same : visible ≡ visibleOf b) {across down : Range}
-    (of-columns : across ≡ partOf (visible .columns) 0 (widthOf (b .size))) (of-rows : down ≡ partOf (visible .rows) 0 rows) where
-  abbrev w : ℕ
-  w = widthOf (b .size)
+-- all visits, counted from the first
+pub whole-visits : (b : Blit) (other l k : List ℕ) → k ≡ inTurn (λ i. visited b other (widthOf (b .size) * 0 + 0 + i))
+    (blitCount (b .size)) l
+    → k ≡ inTurn (visited b other) (blitCount (b .size)) l
+whole-visits b other l k e =
+    e
+    ∙ turn-agree (λ i. visited b other (widthOf (b .size) * 0 + 0 + i)) (visited b other) (blitCount (b .size)) l
+    (λ i p t. let same : widthOf (b .size) * 0 + 0 + i ≡ i = omega arith in ap (λ j. visited b other j t) same)
 
-  whole-columns : across ≡ partOf (visibleColumns b) 0 w
-  whole-columns = of-columns ∙ ap (λ v. partOf (v .columns) 0 w) same
+-- the window alone, where no pixels are read
+pub window-alone : (b : Blit) → reads (b .paint) ≡ false → windowRanges (b .window) (b .to) (b .direction) ≡ visibleOf b
+unfolding visibleColumns visibleRows visibleRange
+window-alone b e =
+    let to = pointOf (b .to) in
+    let from = pointOf (b .from) in
+    let columns =
+    ap (λ r. visibleRange r (rightToLeft (b .direction)) (to .x) (b .window .left) (b .window .right) (from .x) (sourceWidth b)) (sym e) in
+    let rows =
+    ap (λ r. visibleRange r (bottomToTop (b .direction)) (to .y) (b .window .top) (b .window .bottom) (from .y) (b .height)) (sym e) in
+    λ i. record { columns = columns i; rows = rows i }
 
-  whole-lines : down ≡ partOf (visibleRows b) 0 rows
-  whole-lines = of-rows ∙ ap (λ v. partOf (v .rows) 0 rows) same
+-- a whole blit with one pen, whatever the other buffer is
+module _ (b : Blit) (pen : Pen) (l : List ℕ) (is : b .paint ≡ Solid pen) (some : 0 < blitCount (b .size)) (small : b .size < 4294967296)
+    (f : Fitting b 0 (blitCount (b .size)) (length l) (length l)) {shown : Visible}
+    (same : shown ≡ windowRanges (b .window) (b .to) (b .direction))
+    {across down : Range} (of-columns : across ≡ partOf (shown .columns) 0 (widthOf (b .size)))
+    (of-rows : down ≡ partOf (shown .rows) 0 (heightOf (b .size))) where
+  shown-all : shown ≡ visibleOf b
+  shown-all = same ∙ window-alone b (ap reads is)
 
-  row-under : (r : ℕ) → r < rows → r < 65536
-  row-under r h =
-      let most : w * suc r ≤ w * rows = mul-le-mul-left {m = suc r} {n = rows} w (omega (arith, h)) in
-      let here : w * r + w ≤ w * rows = omega (arith, most, mul-suc w r) in
-      omega (arith, row-below w (heightOf (b .size)) (w * r) r 0 (omega (arith, here, some, f .visits)) (omega arith))
-
-  each-row : (r : ℕ) → 0 ≤ r → r < 0 + rows → RowFits b r 0 w (length other) own
-  each-row r p q =
+  pub filled-fits : b .width < 4294967296 → BoxFits (Solid pen) (b .width) (b .to) (b .to) (b .direction) across down (length l) (length l)
+  filled-fits wide =
+      let box = part-fits b l (whole-part b 0 (blitCount (b .size)) (length l) (length l) some small f) shown-all of-columns of-rows wide in
       record {
-        size-small = small;
-        row-small = row-under r (omega arith);
-        columns = omega arith;
-        own-area = f .own-area;
-        other-area = f .other-area;
-        inside = f .inside;
+        across-small = box .across-small;
+        down-small = box .down-small;
+        same = box .same;
+        target = box .target;
+        source = λ t. absurd (false≢true t);
       }
 
-  rows-most : rows ≤ 65536
-  rows-most =
-      by-cases (leb rows 0) (λ t. omega (arith, leb-true rows 0 t))
-      (λ t. let h = leb-false rows 0 t in omega (arith, row-under (rows - 1) (omega arith)))
-
-  pub whole-box-fits : b .width < 4294967296
-      → BoxFits (b .paint) (b .width) (b .to) (b .from) (b .direction) across down (length other) own
-  whole-box-fits wide =
-      box-fits b other 0 rows 0 w own each-row across down whole-columns whole-lines wide
-      (omega (arith, past-most (0 + rows) (visibleRows b .past) (down .past) (ap (λ s. s .past) whole-lines) .0, rows-most))
-      (omega (arith, past-most (0 + w) (visibleColumns b .past) (across .past) (ap (λ s. s .past) whole-columns) .0, small))
-      (f .other-area ∙ sym (f .own-area))
-
-  pub whole-box-inside : reads (b .paint) ≡ true → BoxInside (sourceWidth b) (b .height) (b .from) (b .direction) across down
-  whole-box-inside = box-inside b other 0 rows 0 w own each-row across down whole-columns whole-lines
-
-  pub whole-box-visits : (l k : List ℕ) → k ≡ boxOf (b .paint) (b .width) (b .to) (b .from) (b .direction) across down other l
-      → k ≡ inTurn (visited b other) (w * rows) l
-  whole-box-visits l k e =
-      e ∙ box-visits b other 0 rows 0 w own each-row across down whole-columns whole-lines l
-      ∙ turn-agree (λ r. inTurn (λ i. visited b other (w * (0 + r) + 0 + i)) w) (λ r. inTurn (λ i. visited b other (w * r + i)) w) rows l
-      (λ r h t.
-      let same : 0 + r ≡ r = omega arith in
-      turn-agree (λ i. visited b other (w * (0 + r) + 0 + i)) (λ i. visited b other (w * r + i)) w t
-      (λ i p u. ap (λ r. visited b other (w * r + 0 + i) u) same ∙ ap (λ j. visited b other (j + i) u) (let e : w * r + 0 ≡ w * r = omega arith in e)))
-      ∙ turn-rows (visited b other) w rows l
+  pub filled-visits : (other k : List ℕ) → length other ≡ length l
+      → k ≡ boxOf (Solid pen) (b .width) (b .to) (b .from) (b .direction) across down other l → k ≡ inTurn (visited b other)
+      (blitCount (b .size)) l
+  filled-visits other k long e =
+      let g : Fitting b 0 (blitCount (b .size)) (length other) (length l) =
+      record { own-area = f .own-area; other-area = long ∙ f .own-area; inside = f .inside; visits = f .visits } in
+      whole-visits b other l k
+      (part-visits b other (whole-part b 0 (blitCount (b .size)) (length other) (length l) some small g) shown-all of-columns of-rows l k
+      (e ∙ ap (λ p. boxOf p (b .width) (b .to) (b .from) (b .direction) across down other l) (sym is)))

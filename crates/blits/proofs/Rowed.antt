@@ -11,12 +11,14 @@ use lib.ListN.{length}
 use Rattle.lemmas.specs.Turns.{inTurn}
 use Rattle.lemmas.proofs.Turns.{turn-none, turn-more, turn-end}
 use Rattle.geometry.specs.Blit.{away}
+use Rattle.rows.specs.Rows.{copiedRow}
+use Rattle.rows.specs.declared.Mix.{Mix}
 use Rattle.blits.specs.Blits.{reads, sourcePixels}
 use Rattle.blits.specs.Rows.{rowOf, rowAt, RowsFit}
 use Rattle.blits.specs.Bits.{Apart}
 use Rattle.blits.specs.declared.Paint.{Paint}
 use Rattle.blits.specs.declared.Paint.the-variants.{Solid, Copied, Moved, Stippled, StippledWithin}
-use Rattle.blits.proofs.Painted.{same-source-row}
+use Rattle.blits.proofs.Painted.{same-source-row, copied-from}
 
 -- ---- places that are `width` apart
 
@@ -118,6 +120,19 @@ module _ {paint : Paint} {back up : Bool} {width stride : ℕ} {other : List ℕ
               (g ∙ ap (λ to. rowOf paint back other to source n t) (r .here)
               ∙ same-source-row paint back other (away up at (width * k)) source (away up from (stride * k)) n t (λ s. r .there s h));
         }
+
+-- the same by a row from another buffer
+module _ {mix : Mix} {back up : Bool} {width stride : ℕ} {other : List ℕ} {at from n rows : ℕ} {l t : List ℕ} {to source k : ℕ}
+    (r : Rowed (Copied mix) back up width stride other at from n rows l t to source k) where
+  pub copied-turn : k < rows → (u : List ℕ) (to′ source′ : ℕ) → length u ≡ length t → to′ ≡ away up to width → source′ ≡ away up source stride
+      → u ≡ copiedRow mix n t to other source → Rowed (Copied mix) back up width stride other at from n rows l u to′ source′ (k + 1)
+  copied-turn h u to′ source′ e p q g =
+      rowed-turn r h u to′ source′ e p (λ _ _. q) (copied-from back mix other t u to source n (row-inside r h) (source-inside r h refl) g)
+
+-- rows in a direction that is known
+pub in-direction : (back b : Bool) (paint : Paint) (up : Bool) (width stride : ℕ) (other : List ℕ) (at from n rows : ℕ) (l r : List ℕ) → back ≡ b
+    → r ≡ inTurn (rowAt paint b up width stride other at from n) rows l → r ≡ inTurn (rowAt paint back up width stride other at from n) rows l
+in-direction back b paint up width stride other at from n rows l r e h = rw e h
 
 -- ---- rows of bits, by the byte that each begins in
 

@@ -86,16 +86,10 @@ pub record Fitting (b : Blit) (first n other own : ℕ) : Type 0 where
   pub inside : windowInside (b .width) (b .height) (b .window) ≡ true
   pub visits : first + n ≤ blitCount (b .size)
 
--- What m visits of row r from column c on need.
-pub record RowFits (b : Blit) (r c m other own : ℕ) : Type 0 where
-  pub size-small : b .size < 4294967296
-  pub row-small : r < 65536
-  pub columns : c + m ≤ widthOf (b .size)
-  pub own-area : own ≡ b .width * b .height
-  pub other-area : other ≡ b .width * b .height
-  pub inside : windowInside (b .width) (b .height) (b .window) ≡ true
-
--- r whole rows at the start of n visits from visit `first` on: none but from the first visit.
-pub record WholeRows (size first n r : ℕ) : Type 0 where
-  pub fit : widthOf size * r ≤ n
-  pub start : 0 < r → first ≡ 0
+-- m visits from column c on in each of r rows of w visits, one after the other, of `left` visits: those up to the row's end or the
+-- last, or whole rows.
+pub record AtOnce (w c m left r : ℕ) : Type 0 where
+  pub some : 0 < r
+  pub fit : m * r ≤ left
+  pub even : (k : ℕ) → k < r → w * k ≡ m * k
+  pub ended : m * r < left → c + m * r ≡ w * r

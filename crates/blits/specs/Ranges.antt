@@ -4,6 +4,7 @@ use mathlib.Core.Bool.{Bool, cond}
 use Prim.Native.Nat.{ℕ, _+_, _-_, min, max}
 use Rattle.geometry.specs.Coordinates.{origin, pointOf}
 use Rattle.geometry.specs.Blit.{bottomToTop, rightToLeft}
+use Rattle.geometry.specs.declared.Window.{Window}
 use Rattle.blits.specs.declared.Blit.{Blit}
 use Rattle.blits.specs.declared.ranges.Range.{Range}
 use Rattle.blits.specs.declared.ranges.Visible.{Visible}
@@ -13,6 +14,14 @@ use Rattle.blits.specs.Blits.{reads, sourceWidth}
 unfoldable pub rangeOf : Bool → ℕ → ℕ → ℕ → Range
 rangeOf back c lo hi =
     cond back (record { from = c + 1 - hi; past = c + 1 - lo }) (record { from = lo - c; past = hi - c })
+
+-- The columns and the rows of a blit to a corner that are in the window.
+abbrev pub windowRanges : Window → ℕ → ℕ → Visible
+windowRanges w to direction =
+    record {
+      columns = rangeOf (rightToLeft direction) (pointOf to .x) (w .left) (w .right);
+      rows = rangeOf (bottomToTop direction) (pointOf to .y) (w .top) (w .bottom);
+    }
 
 abbrev pub inBoth : Range → Range → Range
 inBoth p q = record { from = max (p .from) (q .from); past = min (p .past) (q .past) }

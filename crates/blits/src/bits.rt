@@ -1,6 +1,6 @@
 // One row of pixels from bits: eight pixels at a time, or one by one (document 02, R-2).
 ghost use mathlib.Core.Path.{_≡_};
-ghost use mathlib.Core.Bool.{true, cond};
+ghost use mathlib.Core.Bool.{Bool, true, cond};
 ghost use mathlib.Core.Logic.{_⊎_};
 ghost use Prim.Native.Nat.{_+_, _*_, _/_, _<_, _≤_};
 ghost use lib.ListN.{length};
@@ -10,6 +10,7 @@ use crate::eights::bits_at;
 use crate::eights::draw_bits;
 use crate::eights::draw_block;
 use crate::eights::draw_eight;
+use crate::eights::draw_glyph_byte;
 use crate::eights::draw_some;
 use stipples::Inks;
 use stipples::Stipple;
@@ -56,9 +57,9 @@ pub(crate) fn expand_narrow(
     requires { ⌜ ((n ≡ 8) ⊎ (n ≡ 16)) × (inks ≡ inksOf s) × (at + n ≤ length (now buffer)) × BitsFit byte first n (length (now source)) ⌝ }
     ensures { λ _. ⌜ now (buffer .exit) ≡ expanded s n (now (buffer .entry)) at (now (source .entry)) (8 * byte + first) ⌝ }
 {
-    draw_eight(buffer, at, bits_at(source, byte, first, 8), s, inks);
+    draw_glyph_byte(buffer, at, bits_at(source, byte, first, 8), s, inks);
     if n == 16 {
-        draw_eight(buffer, at + 8, bits_at(source, byte + 1, first, 8), s, inks);
+        draw_glyph_byte(buffer, at + 8, bits_at(source, byte + 1, first, 8), s, inks);
     }
 }
 
@@ -95,6 +96,25 @@ fn expand_apart(
     if k < n {
         let bits = bits_at(buffer, i, first, n - k);
         draw_some(buffer, at + k, bits, n - k, s, inks);
+    }
+}
+
+// The same for 8 or 16 pixels.
+pub(crate) fn narrow_apart(
+    buffer: &mut [u8],
+    at: usize,
+    byte: usize,
+    first: usize,
+    n: usize,
+    s: Stipple,
+    inks: Inks,
+)
+    requires { ⌜ ((n ≡ 8) ⊎ (n ≡ 16)) × (inks ≡ inksOf s) × (at + n ≤ length (now buffer)) × BitsFit byte first n (length (now buffer)) × Apart at byte n ⌝ }
+    ensures { λ _. ⌜ ((back : Bool) → now (buffer .exit) ≡ cond back (expandedBack s n (now (buffer .entry)) at (8 * byte + first)) (expandedWithin s n (now (buffer .entry)) at (8 * byte + first))) ⌝ }
+{
+    draw_glyph_byte(buffer, at, bits_at(buffer, byte, first, 8), s, inks);
+    if n == 16 {
+        draw_glyph_byte(buffer, at + 8, bits_at(buffer, byte + 1, first, 8), s, inks);
     }
 }
 

@@ -99,7 +99,16 @@ pub(crate) fn draw_eight(buffer: &mut [u8], at: usize, bits: u8, s: Stipple, ink
     put_word(buffer, at, inks.draw(bits, old));
 }
 
-// The same; `plain` only where no byte is kept, so that none is read.
+// The same for the pixels of a glyph, where one word is drawn and not a row of them.
+pub(crate) fn draw_glyph_byte(buffer: &mut [u8], at: usize, bits: u8, s: Stipple, inks: Inks)
+    requires { ⌜ (inks ≡ inksOf s) × (at + 8 ≤ length (now buffer)) ⌝ }
+    ensures { λ _. ⌜ now (buffer .exit) ≡ byByte s 8 (now (buffer .entry)) at bits ⌝ }
+{
+    let old = word_at(buffer, at);
+    put_word(buffer, at, inks.draw_by_products(bits, old));
+}
+
+// Eight pixels in a row of words; `plain` only where no byte is kept, so that none is read.
 pub(crate) fn draw_block(
     plain: bool,
     buffer: &mut [u8],

@@ -10,19 +10,21 @@ mod row_loops;
 mod tiled;
 
 ghost use mathlib.Core.Path.{_≡_};
-ghost use Prim.Native.Nat.{_+_, _*_, _≤_, _<_};
+ghost use mathlib.Core.List.{List};
+ghost use Prim.Native.Nat.{ℕ, _+_, _-_, _<_, min};
 ghost use lib.ListN.{length};
-ghost use Rattle.geometry.specs.Blit.{widthOf, blitCount};
+ghost use Rattle.geometry.specs.Blit.{blitCount};
 ghost use Rattle.lemmas.specs.Turns.{inTurn};
-ghost use Rattle.blits.specs.Blits.{visited, windowInside, blitFits, blitted, Fitting, RowFits, WholeRows};
-ghost use Rattle.blits.specs.Ranges.{visibleOf};
+ghost use Rattle.blits.specs.Blits.{visited, windowInside, blitFits, blitted, Fitting, AtOnce};
+ghost use Rattle.blits.specs.declared.Paint.the-variants.{Solid};
 ghost use Rattle.blits.specs.Rows.{boxOf, BoxFits};
 use crate::places::place_at;
 use crate::places::source_width;
 use crate::ranges::Range;
-use crate::ranges::Visible;
 use crate::ranges::part;
 use crate::ranges::visible_of;
+use crate::ranges::window_ranges;
+use crate::row_loops::fill_rows;
 use crate::row_loops::paint_rows;
 use geometry::ORIGIN;
 use geometry::Window;
@@ -100,61 +102,58 @@ fn paint_box(
     );
 }
 
-// m visits of one row from a column on.
-fn draw_row(
-    b: Blit,
-    visible: Visible,
-    row: usize,
-    column: usize,
-    m: usize,
+// The same with one pen.
+fn fill_box(
+    pen: Pen,
+    width: u32,
+    to: u32,
+    direction: u32,
+    across: Range,
+    down: Range,
     buffer: &mut [u8],
-    other: &[u8],
 )
-    requires { ⌜ RowFits b row column m (length (now other)) (length (now buffer)) × (visible ≡ visibleOf b) ⌝ }
-    ensures { λ _. ⌜ now (buffer .exit) ≡ inTurn (λ i. visited b (now (other .entry)) (widthOf (b .size) * row + column + i)) m (now (buffer .entry)) ⌝ }
+    requires { ⌜ BoxFits (Solid pen) width to to direction across down (length (now buffer)) (length (now buffer)) ⌝ }
+    ensures { λ _. ⌜ ((from : ℕ) (other : List ℕ) → now (buffer .exit) ≡ boxOf (Solid pen) width to from direction across down other (now (buffer .entry))) ⌝ }
 {
-    let paint = b.paint;
-    let columns = part(visible.columns, column, m);
-    let one = part(visible.rows, row, 1);
-    paint_box(
-        paint,
-        b.width,
-        b.to,
-        b.from,
-        b.direction,
-        columns,
-        one,
-        buffer,
-        other,
-    );
-}
-
-// n visits from visit `first` on, row by row.
-fn draw_rows(b: Blit, visible: Visible, first: usize, n: usize, buffer: &mut [u8], other: &[u8])
-    requires { ⌜ (0 < n) × Fitting b first n (length (now other)) (length (now buffer)) × (visible ≡ visibleOf b) ⌝ }
-    ensures { λ _. ⌜ now (buffer .exit) ≡ inTurn (λ i. visited b (now (other .entry)) (first + i)) n (now (buffer .entry)) ⌝ }
-{
-    let across = (b.size / 65536) as usize;
-    let mut row = first / across;
-    let mut column = first % across;
-    let mut k: usize = 0;
-    while first + k < first + n {
-        let m = min(n - k, across - column);
-        draw_row(b, visible, row, column, m, buffer, other);
-        k += m;
-        row += 1;
-        column = 0;
+    let a = across.from;
+    let z = across.past;
+    let top = down.from;
+    let bottom = down.past;
+    if z <= a {
+        return;
     }
+    if bottom <= top {
+        return;
+    }
+    let up = direction % 2 == 1;
+    let at = place_at(to, width as usize, direction, a, z, top);
+    fill_rows(up, width as usize, buffer, at, z - a, bottom - top, pen);
 }
 
-// Whole rows from the first on, at once.
-fn draw_whole(b: Blit, visible: Visible, rows: usize, buffer: &mut [u8], other: &[u8])
-    requires { ⌜ (0 < widthOf (b .size)) × Fitting b 0 (widthOf (b .size) * rows) (length (now other)) (length (now buffer)) × (visible ≡ visibleOf b) ⌝ }
-    ensures { λ _. ⌜ now (buffer .exit) ≡ inTurn (visited b (now (other .entry))) (widthOf (b .size) * rows) (now (buffer .entry)) ⌝ }
+// A whole blit with one pen.
+fn fill_whole(b: Blit, pen: Pen, buffer: &mut [u8])
+    requires { ⌜ (b .paint ≡ Solid pen) × (0 < blitCount (b .size)) × Fitting b 0 (blitCount (b .size)) (length (now buffer)) (length (now buffer)) ⌝ }
+    ensures { λ _. ⌜ ((other : List ℕ) → length other ≡ length (now (buffer .entry)) → now (buffer .exit) ≡ inTurn (visited b other) (blitCount (b .size)) (now (buffer .entry))) ⌝ }
+{
+    let shown = window_ranges(b.window, b.to, b.direction);
+    let columns = part(shown.columns, 0, (b.size / 65536) as usize);
+    let lines = part(shown.rows, 0, (b.size % 65536) as usize);
+    fill_box(pen, b.width, b.to, b.direction, columns, lines, buffer);
+}
+
+// A whole blit. One pen is most common, and needs no source: so it is chosen first.
+fn draw_whole(b: Blit, buffer: &mut [u8], other: &[u8])
+    requires { ⌜ (0 < blitCount (b .size)) × Fitting b 0 (blitCount (b .size)) (length (now other)) (length (now buffer)) ⌝ }
+    ensures { λ _. ⌜ now (buffer .exit) ≡ inTurn (visited b (now (other .entry))) (blitCount (b .size)) (now (buffer .entry)) ⌝ }
 {
     let paint = b.paint;
+    if let Paint::Solid(pen) = paint {
+        fill_whole(b, pen, buffer);
+        return;
+    }
+    let visible = visible_of(b);
     let columns = part(visible.columns, 0, (b.size / 65536) as usize);
-    let lines = part(visible.rows, 0, rows);
+    let lines = part(visible.rows, 0, (b.size % 65536) as usize);
     paint_box(
         paint,
         b.width,
@@ -168,33 +167,48 @@ fn draw_whole(b: Blit, visible: Visible, rows: usize, buffer: &mut [u8], other: 
     );
 }
 
-// How many whole rows n visits from visit `first` on start with; 0 where they do not start with the first visit.
-fn whole_rows(size: u32, first: usize, n: usize) -> usize
-    requires { ⌜ (0 < widthOf size) × (first + n ≤ blitCount size) ⌝ }
-    ensures { λ r. ⌜ WholeRows size first n r ⌝ }
+// In how many rows the next m visits of a row are drawn at once, of `left` visits: in whole rows, or in one.
+pub(crate) fn rows_at_once(across: usize, m: usize, left: usize) -> usize
+    requires { ⌜ 0 < across ⌝ }
+    ensures { λ r. ⌜ ((column : ℕ) → column < across → m ≡ min left (across - column) → AtOnce across column m left r) ⌝ }
 {
-    if n == blit_count(size) {
-        return (size % 65536) as usize;
+    if m < across {
+        return 1;
     }
-    if first == 0 {
-        return n / ((size / 65536) as usize);
-    }
-    0
+    left / across
 }
 
-// n visits from visit `first` on: whole rows at once, and what is left row by row.
+// n visits from visit `first` on: what is left of a row, whole rows, and the start of a row.
 fn draw_visits(b: Blit, first: usize, n: usize, buffer: &mut [u8], other: &[u8])
     requires { ⌜ (0 < n) × Fitting b first n (length (now other)) (length (now buffer)) ⌝ }
     ensures { λ _. ⌜ now (buffer .exit) ≡ inTurn (λ i. visited b (now (other .entry)) (first + i)) n (now (buffer .entry)) ⌝ }
 {
     let visible = visible_of(b);
-    let rows = whole_rows(b.size, first, n);
-    let done = (b.size / 65536) as usize * rows;
-    draw_whole(b, visible, rows, buffer, other);
-    if n == done {
-        return;
+    let paint = b.paint;
+    let across = (b.size / 65536) as usize;
+    let mut row = first / across;
+    let mut column = first % across;
+    let mut k: usize = 0;
+    while first + k < first + n {
+        let m = min(n - k, across - column);
+        let rows = rows_at_once(across, m, n - k);
+        let columns = part(visible.columns, column, m);
+        let lines = part(visible.rows, row, rows);
+        paint_box(
+            paint,
+            b.width,
+            b.to,
+            b.from,
+            b.direction,
+            columns,
+            lines,
+            buffer,
+            other,
+        );
+        k += m * rows;
+        row += rows;
+        column = 0;
     }
-    draw_rows(b, visible, first + done, n - done, buffer, other);
 }
 
 // Whether both buffers have the blit's size, with the window inside, and the blit so many visits.
@@ -227,6 +241,10 @@ pub fn draw_blit(b: Blit, first: usize, n: usize, buffer: &mut [u8], other: &[u8
         return;
     }
     if n == 0 {
+        return;
+    }
+    if n == blit_count(b.size) {
+        draw_whole(b, buffer, other);
         return;
     }
     draw_visits(b, first, n, buffer, other);

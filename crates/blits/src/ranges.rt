@@ -2,11 +2,12 @@
 ghost use mathlib.Core.Path.{_≡_};
 ghost use Prim.Native.Nat.{_+_, _<_};
 ghost use Rattle.blits.specs.Blits.{reads};
-ghost use Rattle.blits.specs.Ranges.{rangeOf, visibleRange, visibleOf, partOf};
+ghost use Rattle.blits.specs.Ranges.{rangeOf, windowRanges, visibleRange, visibleOf, partOf};
 use crate::Blit;
 use crate::Paint;
 use crate::places::source_width;
 use geometry::ORIGIN;
+use geometry::Window;
 use geometry::point_of;
 use numbers::max;
 use numbers::min;
@@ -75,6 +76,17 @@ fn visible_range(
         return Range { from, past };
     }
     target
+}
+
+// The columns and rows in the window.
+pub(crate) fn window_ranges(w: Window, to: u32, direction: u32) -> Visible
+    ensures { λ r. ⌜ r ≡ windowRanges w to direction ⌝ }
+{
+    let target = point_of(to);
+    Visible {
+        columns: range_of(direction / 2 % 2 == 1, target.x, w.left, w.right),
+        rows: range_of(direction % 2 == 1, target.y, w.top, w.bottom),
+    }
 }
 
 // The visible columns and rows.

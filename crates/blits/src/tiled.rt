@@ -19,7 +19,8 @@ use crate::places::place_at;
 use crate::ranges::Range;
 use crate::ranges::Visible;
 use crate::ranges::part;
-use crate::ranges::range_of;
+use crate::ranges::window_ranges;
+use crate::rows_at_once;
 use geometry::Window;
 use geometry::blit_count;
 use geometry::point_of;
@@ -138,15 +139,10 @@ fn shown_of(t: Tiling) -> Visible
     requires { ⌜ windowInside (t .width) (t .height) (t .window) ≡ true ⌝ }
     ensures { λ r. ⌜ r ≡ visibleOf (copyOf t) ⌝ }
 {
-    let w = t.window;
-    let target = point_of(t.to);
-    Visible {
-        columns: range_of(t.direction / 2 % 2 == 1, target.x, w.left, w.right),
-        rows: range_of(t.direction % 2 == 1, target.y, w.top, w.bottom),
-    }
+    window_ranges(t.window, t.to, t.direction)
 }
 
-// n visits from visit `first` on, row by row.
+// n visits from visit `first` on: what is left of a row, whole rows, and the start of a row.
 fn draw_tile_rows(t: Tiling, shown: Visible, first: usize, n: usize, buffer: &mut [u8], wide: &[u8])
     requires { ⌜ (0 < n) × Fitting (copyOf t) first n (length (now buffer)) (length (now buffer)) × (shown ≡ visibleOf (copyOf t)) × Doubled (now wide) ⌝ }
     ensures { λ _. ⌜ ((d : Doubled (now (wide .entry))) → now (buffer .exit) ≡ inTurn (λ i. visited (copyOf t) (planeOf (t .width) (t .height) (d .tile)) (first + i)) n (now (buffer .entry))) ⌝ }
@@ -157,25 +153,26 @@ fn draw_tile_rows(t: Tiling, shown: Visible, first: usize, n: usize, buffer: &mu
     let mut k: usize = 0;
     while first + k < first + n {
         let m = min(n - k, across - column);
+        let rows = rows_at_once(across, m, n - k);
         let columns = part(shown.columns, column, m);
-        let one = part(shown.rows, row, 1);
+        let lines = part(shown.rows, row, rows);
         tile_box(
             t.selectors,
             t.width,
             t.to,
             t.direction,
             columns,
-            one,
+            lines,
             buffer,
             wide,
         );
-        k += m;
-        row += 1;
+        k += m * rows;
+        row += rows;
         column = 0;
     }
 }
 
-// n visits of a blit from a tile, from visit `first` on: all at once, or else row by row.
+// n visits of a blit from a tile, from visit `first` on.
 pub fn draw_tiled(t: Tiling, tile: Tile, first: usize, n: usize, buffer: &mut [u8])
     ensures { λ _. ⌜ now (buffer .exit) ≡ blitted (copyOf t) first n (planeOf (t .width) (t .height) tile) (now (buffer .entry)) ⌝ }
 {

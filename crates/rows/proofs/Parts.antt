@@ -44,7 +44,7 @@ module _ (f : ℕ → ℕ → ℕ) (n : ℕ) (l : List ℕ) (at : ℕ) where
 -- the row: k places from place p on, and then b places from place z on, by h and q; what q writes is the row's byte on the old one
 module _ (f h q : ℕ → ℕ → ℕ) (n p k z b : ℕ) (l m r : List ℕ) (at o u : ℕ) (fits : at + n ≤ length l) (eo : o ≡ at + p)
     (eu : u ≡ at + z) (first : p + k ≤ n) (second : z + b ≤ n)
-    (cover : (i : ℕ) → i < n → (i < p) ⊎ (p + k ≤ i) → (z ≤ i) × (i < z + b)) (early : (j d : ℕ) → h j d ≡ f (p + j) d)
+    (cover : (i : ℕ) → i < n → (i < p) ⊎ (p + k ≤ i) → (z ≤ i) × (i < z + b)) (early : (j : ℕ) → j < k → h j (getD l (o + j) 0) ≡ f (p + j) (getD l (o + j) 0))
     (late : (j d : ℕ) → j < b → q j d ≡ f (z + j) (getD l (u + j) 0)) (em : m ≡ right h k l o) (er : r ≡ right q b m u) where
   as-long : length m ≡ length l
   as-long = ap length em ∙ right-length h k l o
@@ -55,7 +55,8 @@ module _ (f h q : ℕ → ℕ → ℕ) (n p k z b : ℕ) (l m r : List ℕ) (at 
       (inside o k i
       (λ v w.
       let turn : p + (i - o) ≡ i - at = omega arith in
-      right-in h k l o (omega arith) i v w ∙ early (i - o) (getD l i 0) ∙ rw turn)
+      let place : o + (i - o) ≡ i = omega arith in
+      right-in h k l o (omega arith) i v w ∙ rw (turn, place) at (early (i - o) (omega arith)))
       (λ v.
       let there = cover (i - at) (omega arith) (⊎-elim (λ w. inl (omega arith)) (λ w. inr (omega arith)) v) in
       absurd (⊎-elim (λ w. omega arith) (λ w. omega arith) c)))
@@ -97,7 +98,7 @@ pub filled-twice : (x n k b : ℕ) (l m r : List ℕ) (at : ℕ) → at + n ≤ 
     → m ≡ sweep (λ j. at + j) (λ j w. x) k l → r ≡ sweep (λ j. at + (n - b) + j) (λ j w. x) b m → r ≡ sweep (λ j. at + j) (λ j w. x) n l
 filled-twice x n k b l m r at fits small enough part =
     parts (λ j d. x) (λ j d. x) (λ j d. x) n 0 k (n - b) b l m r at at (at + (n - b)) fits (omega arith) refl (omega arith) (omega arith)
-    (λ i v c. ⊎-elim (λ x. (omega arith, omega arith)) (λ x. (omega arith, omega arith)) c) (λ j d. refl) (λ j d v. refl)
+    (λ i v c. ⊎-elim (λ x. (omega arith, omega arith)) (λ x. (omega arith, omega arith)) c) (λ j v. refl) (λ j d v. refl)
 
 -- source bytes: the first b pixels and the last b, which were kept aside in t
 pub copied-twice : (n b : ℕ) (l m w t r : List ℕ) (at : ℕ) (source : List ℕ) (from : ℕ) → at + n ≤ length l → b ≤ n → n ≤ b + b → b ≤ length w
@@ -107,7 +108,7 @@ copied-twice n b l m w t r at source from fits small enough room em et er =
     parts (λ j d. getD source (from + j) 0) (λ j d. getD source (from + j) 0) (λ j d. getD t (0 + j) 0) n 0 b (n - b) b l m r at at (at + (n - b)) fits
     (omega arith) refl (omega arith) (omega arith)
     (λ i v c. ⊎-elim (λ x. (omega arith, omega arith)) (λ x. (omega arith, omega arith)) c)
-    (λ j d. let e : from + j ≡ from + (0 + j) = omega arith in rw e)
+    (λ j v. let e : from + j ≡ from + (0 + j) = omega arith in rw e)
     (λ j d v.
     let e : from + (n - b) + j ≡ from + (n - b + j) = omega arith in
     kept (λ j d. getD source (from + (n - b) + j) 0) b w t room et j v ∙ ap (λ k. getD source k 0) e)
@@ -120,7 +121,7 @@ module _ (n k z b : ℕ) (l m w s t r : List ℕ) (at : ℕ) (fits : at + n ≤ 
       → m ≡ right h k l at → t ≡ right g b s 0 → r ≡ right f n l at
   last-aside f g h early late em et =
       parts f h (λ j d. getD t (0 + j) 0) n 0 k z b l m r at at (at + z) fits (omega arith) refl (omega arith) (omega arith)
-      (λ i v c. ⊎-elim (λ x. (omega arith, omega arith)) (λ x. (omega arith, omega arith)) c) early
+      (λ i v c. ⊎-elim (λ x. (omega arith, omega arith)) (λ x. (omega arith, omega arith)) c) (λ j v. early j (getD l (at + j) 0))
       (aside f g z b l w s t (at + z) room late es et) em er
 
   pub filled-last : (p : Pen) → m ≡ filled p k l at → t ≡ filled p b s 0 → r ≡ filled p n l at
@@ -149,7 +150,7 @@ moved-back-last f n k b l m w s t r at from fits x y small enough part room c em
     parts row (λ j. f (getD l (from - k + j) 0)) (λ j d. getD t (0 + j) 0) n (n - k) k 0 b l m r (at - n) (at - k) (at - n)
     (omega arith) (omega arith) (omega arith) (omega arith) (omega arith)
     (λ i v c. ⊎-elim (λ x. (omega arith, omega arith)) (λ x. (omega arith, omega arith)) c)
-    (λ j d. let e : from - k + j ≡ from - n + (n - k + j) = omega arith in rw e)
+    (λ j v. let e : from - k + j ≡ from - n + (n - k + j) = omega arith in rw e)
     (aside row (λ j. f (getD l (from - n + j) 0)) 0 b l w s t (at - n) room
     (λ j d v. let e : from - n + j ≡ from - n + (0 + j) = omega arith in rw e) es et)
     (em ∙ moved-back-aside f k l at from (⊎-elim (λ x. inl x) (λ x. inr (omega arith)) c) (omega arith) (omega arith)) er
@@ -161,5 +162,51 @@ pub last-over : (f g h : ℕ → ℕ → ℕ) (n k z b : ℕ) (l m r : List ℕ)
     → m ≡ right h k l at → r ≡ right g b m (at + z) → r ≡ right f n l at
 last-over f g h n k z b l m r at fits whole enough part alone early late =
     parts f h g n 0 k z b l m r at at (at + z) fits (omega arith) refl (omega arith) (omega arith)
-    (λ i v c. ⊎-elim (λ x. (omega arith, omega arith)) (λ x. (omega arith, omega arith)) c) early
+    (λ i v c. ⊎-elim (λ x. (omega arith, omega arith)) (λ x. (omega arith, omega arith)) c) (λ j v. early j (getD l (at + j) 0))
     (λ j d v. late j d v ∙ alone (z + j) d (getD l (at + z + j) 0))
+
+-- h bytes from x on and h from y on, side by side
+beside : (h : ℕ) (w a b source : List ℕ) (x y : ℕ) → h + h ≤ length w → a ≡ copied (λ s d. s) h w 0 source x → b ≡ copied (λ s d. s) h a h source y
+    → (j : ℕ) → j < h → (getD b j 0 ≡ getD source (x + j) 0) × (getD b (h + j) 0 ≡ getD source (y + j) 0)
+beside h w a b source x y room ea eb j v =
+    let first : ℕ → ℕ → ℕ = (λ j d. getD source (x + j) 0) in
+    let second : ℕ → ℕ → ℕ = (λ j d. getD source (y + j) 0) in
+    let long : length a ≡ length w = ap length ea ∙ right-length first h w 0 in
+    let here : j - 0 ≡ j = omega arith in
+    let there : h + j - h ≡ j = omega arith in (
+      ap (λ b. getD b j 0) eb ∙ right-out second h a h j (inl v) ∙ ap (λ a. getD a j 0) ea
+          ∙ rw here at (right-in first h w 0 (omega arith) j (omega arith) (omega arith)),
+      ap (λ b. getD b (h + j) 0) eb ∙ rw there at (right-in second h a h (omega arith) (h + j) (omega arith) (omega arith)),
+    )
+
+-- the last h pixels end where the row does, in a buffer as long as before
+pub last-inside : (h n at len own : ℕ) → h ≤ n → at + n ≤ len → own ≡ len → at + (n - h) + h ≤ own
+last-inside h n at len own small fits e = omega arith
+
+-- h to 2h pixels, drawn side by side: the first h and the last h, on what stood there
+pub mixed-beside : (f : ℕ → ℕ → ℕ) (h n : ℕ) (l : List ℕ) (at : ℕ) (source : List ℕ) (from : ℕ) (v a b w o q t m r : List ℕ) → h ≤ n → n ≤ h + h
+    → at + n ≤ length l → h + h ≤ length v → h + h ≤ length w → a ≡ copied (λ s d. s) h v 0 source from
+    → b ≡ copied (λ s d. s) h a h source (from + (n - h)) → o ≡ copied (λ s d. s) h w 0 l at → q ≡ copied (λ s d. s) h o h l (at + (n - h))
+    → t ≡ copied f (h + h) q 0 b 0 → m ≡ copied (λ s d. s) h l at t 0 → r ≡ copied (λ s d. s) h m (at + (n - h)) t h
+    → r ≡ copied f n l at source from
+mixed-beside f h n l at source from v a b w o q t m r small enough fits room space ea eb eo eq et em er =
+    let z = n - h in
+    let long : length q ≡ length w =
+    ap length eq ∙ right-length (λ j d. getD l (at + z + j) 0) h o h ∙ ap length eo ∙ right-length (λ j d. getD l (at + j) 0) h w 0 in
+    let new : (i : ℕ) → i < h + h → getD t i 0 ≡ f (getD b i 0) (getD q i 0) = (λ i y.
+    let e : i - 0 ≡ i = omega arith in
+    let g : 0 + i ≡ i = omega arith in
+    ap (λ t. getD t i 0) et ∙ rw (e, g) at (right-in (λ k. f (getD b (0 + k) 0)) (h + h) q 0 (omega arith) i (omega arith) (omega arith))) in
+    parts (λ j. f (getD source (from + j) 0)) (λ j d. getD t (0 + j) 0) (λ j d. getD t (h + j) 0) n 0 h z h l m r at at (at + z) fits (omega arith) refl
+    (omega arith) (omega arith) (λ i v c. ⊎-elim (λ x. (omega arith, omega arith)) (λ x. (omega arith, omega arith)) c)
+    (λ j y.
+    let p = beside h v a b source from (from + z) room ea eb j y in
+    let d = beside h w o q l at (at + z) space eo eq j y in
+    let e : 0 + j ≡ j = omega arith in
+    rw e (new j (omega arith) ∙ rw (p .0, d .0)))
+    (λ j d y.
+    let p = beside h v a b source from (from + z) room ea eb j y in
+    let d = beside h w o q l at (at + z) space eo eq j y in
+    let e : from + z + j ≡ from + (z + j) = omega arith in
+    new (h + j) (omega arith) ∙ rw (p .1, d .1, e))
+    em er

@@ -1,6 +1,6 @@
 -- Rows of pixels (01, Pixels): one visit after the other, each on the bytes as they stand at that visit.
 use mathlib.Core.Path.{_≡_}
-use mathlib.Core.Bool.{false, cond, _&&_}
+use mathlib.Core.Bool.{Bool, false, cond, _&&_}
 use mathlib.Core.List.{List}
 use Prim.Native.Nat.{ℕ, _+_, _-_, _*_, _%_, _<_}
 use lib.Bits.{bitAnd, bitXor}
@@ -15,6 +15,10 @@ use Rattle.rows.specs.declared.Mix.{Mix}
 -- The new byte from a source byte and an old one: a source byte equal to KEY, with KEY set, draws nothing.
 unfoldable pub mixed : Mix → ℕ → ℕ → ℕ
 mixed m s d = cond (m .keyed && eqb s (m .key)) d (drawn (selected (m .selectors) s) d)
+
+-- Every new byte is the source byte.
+abbrev pub Plain : (ℕ → ℕ → ℕ) → Type 0
+Plain f = (s d : ℕ) → s < 256 → s ≡ f s d
 
 -- n pixels of l from `at` on, to the right.
 abbrev pub filled : Pen → ℕ → List ℕ → ℕ → List ℕ
@@ -39,6 +43,10 @@ copiedBack f n l at source from =
 abbrev pub movedBack : (ℕ → ℕ → ℕ) → ℕ → List ℕ → ℕ → ℕ → List ℕ
 movedBack f n l at from = sweep (λ k. at - (k + 1)) (λ k m. f (getD m (from - (k + 1)) 0) (getD m (at - (k + 1)) 0)) n l
 
+-- Within one buffer in either direction; both places are left ends.
+abbrev pub shifted : Bool → (ℕ → ℕ → ℕ) → ℕ → List ℕ → ℕ → ℕ → List ℕ
+shifted back f n l at from = cond back (movedBack f n l (at + n) (from + n)) (moved f n l at from)
+
 -- Rows that do not fit their buffers are not drawn.
 unfoldable pub filledRow : Pen → ℕ → List ℕ → ℕ → List ℕ
 filledRow p n l at = cond (leb (at + n) (length l)) (filled p n l at) l
@@ -53,6 +61,10 @@ movedRow m n l at from = cond (leb (at + n) (length l) && leb (from + n) (length
 unfoldable pub movedBackRow : Mix → ℕ → List ℕ → ℕ → ℕ → List ℕ
 movedBackRow m n l at from =
     cond (leb n at && leb n from && leb at (length l) && leb from (length l)) (movedBack (mixed m) n l at from) l
+
+unfoldable pub shiftedRow : Bool → Mix → ℕ → List ℕ → ℕ → ℕ → List ℕ
+shiftedRow back m n l at from =
+    cond (leb (at + n) (length l) && leb (from + n) (length l)) (shifted back (mixed m) n l at from) l
 
 -- The source is a row of a tile (02, R-7), whose pixels go round every sixteen; no KEY.
 abbrev pub unkeyed : Selectors → Mix

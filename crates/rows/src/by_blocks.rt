@@ -75,6 +75,47 @@ pub(crate) fn draw_short(buffer: &mut [u8], at: usize, n: usize, pen: Pen)
     copy_bytes(buffer, at + z, &last, 0, 8);
 }
 
+// 8 to 16 pixels from another buffer: the first 8 and the last 8 side by side, all read before any is written.
+pub(crate) fn mix_short(
+    buffer: &mut [u8],
+    at: usize,
+    source: &[u8],
+    from: usize,
+    n: usize,
+    mix: Mix,
+)
+    requires { ⌜ (8 ≤ n) × (n ≤ 16) × (at + n ≤ length (now buffer)) × (from + n ≤ length (now source)) ⌝ }
+    ensures { λ _. ⌜ now (buffer .exit) ≡ copied (mixed mix) n (now (buffer .entry)) at (now (source .entry)) from ⌝ }
+{
+    let z = n - 8;
+    let mut pixels: [u8; 16] = [0; 16];
+    let mut new: [u8; 16] = [0; 16];
+    copy_bytes(&mut pixels, 0, source, from, 8);
+    copy_bytes(&mut pixels, 8, source, from + z, 8);
+    copy_bytes(&mut new, 0, buffer, at, 8);
+    copy_bytes(&mut new, 8, buffer, at + z, 8);
+    mix_bytes(&mut new, 0, &pixels, 0, 16, mix);
+    copy_bytes(buffer, at, &new, 0, 8);
+    copy_bytes(buffer, at + z, &new, 8, 8);
+}
+
+// The same from the buffer itself.
+pub(crate) fn mix_short_within(buffer: &mut [u8], at: usize, from: usize, n: usize, mix: Mix)
+    requires { ⌜ (8 ≤ n) × (n ≤ 16) × (at + n ≤ length (now buffer)) × (from + n ≤ length (now buffer)) ⌝ }
+    ensures { λ _. ⌜ now (buffer .exit) ≡ copied (mixed mix) n (now (buffer .entry)) at (now (buffer .entry)) from ⌝ }
+{
+    let z = n - 8;
+    let mut pixels: [u8; 16] = [0; 16];
+    let mut new: [u8; 16] = [0; 16];
+    copy_bytes(&mut pixels, 0, buffer, from, 8);
+    copy_bytes(&mut pixels, 8, buffer, from + z, 8);
+    copy_bytes(&mut new, 0, buffer, at, 8);
+    copy_bytes(&mut new, 8, buffer, at + z, 8);
+    mix_bytes(&mut new, 0, &pixels, 0, 16, mix);
+    copy_bytes(buffer, at, &new, 0, 8);
+    copy_bytes(buffer, at + z, &new, 8, 8);
+}
+
 // Long rows from another buffer.
 pub(crate) fn mix_long(buffer: &mut [u8], at: usize, source: &[u8], from: usize, n: usize, mix: Mix)
     requires { ⌜ (32 ≤ n) × (at + n ≤ length (now buffer)) × (from + n ≤ length (now source)) ⌝ }

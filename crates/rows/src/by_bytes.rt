@@ -2,15 +2,27 @@
 ghost use mathlib.Core.Path.{_≡_};
 ghost use mathlib.Core.Logic.{_⊎_};
 ghost use mathlib.Core.Bool.{true};
-ghost use Prim.Native.Nat.{_+_, _≤_};
+ghost use mathlib.Core.List.{List};
+ghost use Prim.Native.Nat.{ℕ, _+_, _≤_};
 ghost use lib.ListN.{length};
 ghost use Rattle.lemmas.specs.Sweeps.{sweep};
-ghost use Rattle.rows.specs.Rows.{mixed, filled, copied, moved, movedBack};
+ghost use Rattle.rows.specs.Rows.{mixed, filled, copied, moved, movedBack, shifted};
 use crate::Mix;
 use raster::Pen;
 
-// The new byte. KEY chooses a value and skips no store, so that the loops below are vectorised.
+// The new byte. Where the source byte is KEY none of its bits are taken: with no branch, and no store left out, the loops below are
+// vectorised, and loops of fixed length too.
 fn mix_byte(mix: Mix, s: u8, d: u8) -> u8
+    ensures { λ r. ⌜ r ≡ mixed mix s d ⌝ }
+{
+    let q = mix.selectors;
+    let new = (d & ((s & q.both) ^ q.old)) ^ ((s & q.source) ^ q.none);
+    let mask: u8 = if mix.keyed & (s == mix.key) { 0 } else { 255 };
+    d ^ ((d ^ new) & mask)
+}
+
+// The same by a branch, for rows that read what they wrote: there each byte waits for the one before.
+fn mix_next(mix: Mix, s: u8, d: u8) -> u8
     ensures { λ r. ⌜ r ≡ mixed mix s d ⌝ }
 {
     let q = mix.selectors;
@@ -83,6 +95,16 @@ pub(crate) fn is_clear(at: usize, from: usize, n: usize) -> bool
     n <= at - from
 }
 
+// The same in either direction: then the row is a copy.
+pub(crate) fn reads_first(back: bool, at: usize, from: usize, n: usize) -> bool
+    ensures { λ r. ⌜ (r ≡ true → (f : ℕ → ℕ → ℕ) (l : List ℕ) → shifted back f n l at from ≡ copied f n l at l from) ⌝ }
+{
+    if back {
+        return is_clear(from, at, n);
+    }
+    is_clear(at, from, n)
+}
+
 // Within one buffer, where a byte may be read that was written before.
 pub(crate) fn move_bytes(buffer: &mut [u8], at: usize, from: usize, n: usize)
     requires { ⌜ (at + n ≤ length (now buffer)) × (from + n ≤ length (now buffer)) ⌝ }
@@ -112,7 +134,7 @@ pub(crate) fn mix_within(buffer: &mut [u8], at: usize, from: usize, n: usize, mi
 {
     let mut k: usize = 0;
     while k < n {
-        buffer[at + k] = mix_byte(mix, buffer[from + k], buffer[at + k]);
+        buffer[at + k] = mix_next(mix, buffer[from + k], buffer[at + k]);
         k += 1;
     }
 }
@@ -124,6 +146,6 @@ pub(crate) fn mix_within_back(buffer: &mut [u8], at: usize, from: usize, n: usiz
     let mut k: usize = 0;
     while k < n {
         k += 1;
-        buffer[at - k] = mix_byte(mix, buffer[from - k], buffer[at - k]);
+        buffer[at - k] = mix_next(mix, buffer[from - k], buffer[at - k]);
     }
 }

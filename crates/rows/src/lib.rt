@@ -7,14 +7,17 @@ mod unmixed;
 
 ghost use mathlib.Core.Path.{_≡_};
 ghost use mathlib.Core.Bool.{true};
-ghost use Prim.Native.Nat.{ℕ, _+_, _<_, _≤_};
+ghost use Prim.Native.Nat.{ℕ, _+_, _≤_};
 ghost use lib.Dec.{leb};
 ghost use lib.ListN.{length};
-ghost use Rattle.rows.specs.Rows.{mixed, unkeyed, covered, filled, copied, moved, movedBack, Twice};
-ghost use Rattle.rows.specs.Rows.{filledRow, copiedRow, movedRow, movedBackRow, tiledRow};
+ghost use Rattle.rows.specs.declared.Mix.{Mix};
+ghost use Rattle.rows.specs.Rows.{mixed, unkeyed, covered, filled, moved, movedBack, Plain, Twice};
+ghost use Rattle.rows.specs.Rows.{filledRow, copiedRow, movedRow, movedBackRow, shiftedRow, tiledRow};
 use crate::by_blocks::draw_long;
 use crate::by_blocks::draw_short;
 use crate::by_blocks::mix_long;
+use crate::by_blocks::mix_short;
+use crate::by_blocks::mix_short_within;
 use crate::by_blocks::move_long;
 use crate::by_blocks::move_long_back;
 use crate::by_bytes::draw_bytes;
@@ -22,6 +25,7 @@ use crate::by_bytes::is_clear;
 use crate::by_bytes::mix_bytes;
 use crate::by_bytes::mix_within;
 use crate::by_bytes::mix_within_back;
+use crate::by_bytes::reads_first;
 use crate::tiled::cover_row;
 use crate::tiled::mix_row;
 use crate::unmixed::copy_plain;
@@ -39,8 +43,8 @@ pub struct Mix {
 }
 
 // True only where every new byte is the source byte.
-fn is_plain(mix: Mix) -> bool
-    ensures { λ r. ⌜ (r ≡ true → (s d : ℕ) → s < 256 → s ≡ mixed mix s d) ⌝ }
+pub fn is_plain(mix: Mix) -> bool
+    ensures { λ r. ⌜ (r ≡ true → Plain (mixed mix)) ⌝ }
 {
     let q = mix.selectors;
     !mix.keyed & (q.both == 0) & (q.old == 0) & (q.source == 255) & (q.none == 0)
@@ -72,30 +76,11 @@ fn fill_pixels(buffer: &mut [u8], at: usize, n: usize, pen: Pen)
     draw_long(buffer, at, n, pen);
 }
 
-// Rows that fit, from another buffer and within one.
-fn copy_pixels(buffer: &mut [u8], at: usize, source: &[u8], from: usize, n: usize, mix: Mix)
-    requires { ⌜ (at + n ≤ length (now buffer)) × (from + n ≤ length (now source)) ⌝ }
-    ensures { λ _. ⌜ now (buffer .exit) ≡ copied (mixed mix) n (now (buffer .entry)) at (now (source .entry)) from ⌝ }
-{
-    if is_plain(mix) {
-        copy_plain(buffer, at, source, from, n);
-        return;
-    }
-    if n < 32 {
-        mix_bytes(buffer, at, source, from, n, mix);
-        return;
-    }
-    mix_long(buffer, at, source, from, n, mix);
-}
-
+// Rows that fit, within one buffer.
 fn move_pixels(buffer: &mut [u8], at: usize, from: usize, n: usize, mix: Mix)
     requires { ⌜ (at + n ≤ length (now buffer)) × (from + n ≤ length (now buffer)) ⌝ }
     ensures { λ _. ⌜ now (buffer .exit) ≡ moved (mixed mix) n (now (buffer .entry)) at from ⌝ }
 {
-    if is_plain(mix) {
-        move_plain(buffer, at, from, n);
-        return;
-    }
     if n < 32 {
         mix_within(buffer, at, from, n, mix);
         return;
@@ -111,10 +96,6 @@ fn move_pixels_back(buffer: &mut [u8], at: usize, from: usize, n: usize, mix: Mi
     requires { ⌜ (n ≤ at) × (n ≤ from) × (at ≤ length (now buffer)) × (from ≤ length (now buffer)) ⌝ }
     ensures { λ _. ⌜ now (buffer .exit) ≡ movedBack (mixed mix) n (now (buffer .entry)) at from ⌝ }
 {
-    if is_plain(mix) {
-        move_plain_back(buffer, at, from, n);
-        return;
-    }
     if n < 32 {
         mix_within_back(buffer, at, from, n, mix);
         return;
@@ -157,7 +138,42 @@ pub fn copy_row(buffer: &mut [u8], at: usize, source: &[u8], from: usize, n: usi
     if !(fits(buffer.len(), at, n) & fits(source.len(), from, n)) {
         return;
     }
-    copy_pixels(buffer, at, source, from, n, mix);
+    mix_bytes(buffer, at, source, from, n, mix);
+}
+
+// The same where every new byte is the source byte, and where there are 8 to 16 pixels, or 32 and more. Each for a loop of its own: one
+// over rows of every kind keeps what all kinds need.
+pub fn copy_plain_row(buffer: &mut [u8], at: usize, source: &[u8], from: usize, n: usize)
+    ensures { λ _. ⌜ ((mix : Mix) → Plain (mixed mix) → now (buffer .exit) ≡ copiedRow mix n (now (buffer .entry)) at (now (source .entry)) from) ⌝ }
+{
+    if !(fits(buffer.len(), at, n) & fits(source.len(), from, n)) {
+        return;
+    }
+    copy_plain(buffer, at, source, from, n);
+}
+
+pub fn copy_short_row(buffer: &mut [u8], at: usize, source: &[u8], from: usize, n: usize, mix: Mix)
+    ensures { λ _. ⌜ (8 ≤ n → n ≤ 16 → now (buffer .exit) ≡ copiedRow mix n (now (buffer .entry)) at (now (source .entry)) from) ⌝ }
+{
+    if (16 < n) | (n < 8) {
+        return;
+    }
+    if !(fits(buffer.len(), at, n) & fits(source.len(), from, n)) {
+        return;
+    }
+    mix_short(buffer, at, source, from, n, mix);
+}
+
+pub fn copy_long_row(buffer: &mut [u8], at: usize, source: &[u8], from: usize, n: usize, mix: Mix)
+    ensures { λ _. ⌜ (32 ≤ n → now (buffer .exit) ≡ copiedRow mix n (now (buffer .entry)) at (now (source .entry)) from) ⌝ }
+{
+    if n < 32 {
+        return;
+    }
+    if !(fits(buffer.len(), at, n) & fits(source.len(), from, n)) {
+        return;
+    }
+    mix_long(buffer, at, source, from, n, mix);
 }
 
 // The same within one buffer, from left to right.
@@ -178,6 +194,40 @@ pub fn move_row_back(buffer: &mut [u8], at: usize, from: usize, n: usize, mix: M
         return;
     }
     move_pixels_back(buffer, at, from, n, mix);
+}
+
+// The same in either direction, from left ends: where every new byte is the source byte, and where there are 8 to 16 pixels.
+pub fn move_plain_row(back: bool, buffer: &mut [u8], at: usize, from: usize, n: usize)
+    ensures { λ _. ⌜ ((mix : Mix) → Plain (mixed mix) → now (buffer .exit) ≡ shiftedRow back mix n (now (buffer .entry)) at from) ⌝ }
+{
+    if !(fits(buffer.len(), at, n) & fits(buffer.len(), from, n)) {
+        return;
+    }
+    if back {
+        move_plain_back(buffer, at + n, from + n, n);
+        return;
+    }
+    move_plain(buffer, at, from, n);
+}
+
+pub fn move_short_row(back: bool, buffer: &mut [u8], at: usize, from: usize, n: usize, mix: Mix)
+    ensures { λ _. ⌜ (8 ≤ n → n ≤ 16 → now (buffer .exit) ≡ shiftedRow back mix n (now (buffer .entry)) at from) ⌝ }
+{
+    if (16 < n) | (n < 8) {
+        return;
+    }
+    if !(fits(buffer.len(), at, n) & fits(buffer.len(), from, n)) {
+        return;
+    }
+    if reads_first(back, at, from, n) {
+        mix_short_within(buffer, at, from, n, mix);
+        return;
+    }
+    if back {
+        mix_within_back(buffer, at + n, from + n, n, mix);
+        return;
+    }
+    mix_within(buffer, at, from, n, mix);
 }
 
 // True only where the old byte does not count.

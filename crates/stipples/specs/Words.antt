@@ -15,9 +15,12 @@ byteIn k word = word / 2 ^ (8 * k) % 256
 abbrev pub eightOf : ℕ → ℕ
 eightOf x = x * 0x0101_0101_0101_0101
 
--- The bits of a byte, its most significant first, as bytes 255 and 0.
+-- The bits of a byte, its most significant first, as bytes 1 and 0, and as bytes 255 and 0.
+unfoldable pub onesOf : ℕ → ℕ
+onesOf bits = bitAnd ((bitAnd (eightOf bits) 0x0102_0408_1020_4080 + 0x7F7F_7F7F_7F7F_7F7F) / 2 ^ 7) 0x0101_0101_0101_0101
+
 unfoldable pub spreadOf : ℕ → ℕ
-spreadOf bits = bitAnd ((bitAnd (eightOf bits) 0x0102_0408_1020_4080 + 0x7F7F_7F7F_7F7F_7F7F) / 2 ^ 7) 0x0101_0101_0101_0101 * 255
+spreadOf bits = onesOf bits * 255
 
 -- The pen of a 0: one that keeps every byte where a 0 draws nothing.
 abbrev pub zeroPen : Stipple → Pen

@@ -1,7 +1,8 @@
 // Pixels from bits (document 02, R-2): the new byte of one pixel, and eight new bytes in a word.
 ghost use mathlib.Core.Path.{_≡_};
-ghost use Rattle.stipples.specs.Stipples.{stippled};
-ghost use Rattle.stipples.specs.Words.{eightOf, spreadOf, zeroPen, inksOf, inked};
+ghost use Prim.Native.Nat.{ℕ, _<_};
+ghost use Rattle.stipples.specs.Stipples.{bitIn, stippled};
+ghost use Rattle.stipples.specs.Words.{byteIn, eightOf, onesOf, spreadOf, zeroPen, inksOf, inked, Bytes};
 use raster::Pen;
 
 // What a 1 draws with, and a 0: with `clear` a 0 draws nothing.
@@ -26,12 +27,19 @@ fn eight(x: u8) -> u64
     x as u64 * 0x0101_0101_0101_0101
 }
 
-// The bits of a byte as bytes 255 and 0: each is tested in a byte of its own.
+// The bits of a byte as bytes 1 and 0: each is tested in a byte of its own.
+fn ones(bits: u8) -> u64
+    ensures { λ r. ⌜ r ≡ onesOf bits ⌝ }
+{
+    let tested = eight(bits) & 0x0102_0408_1020_4080;
+    ((tested + 0x7F7F_7F7F_7F7F_7F7F) >> 7) & 0x0101_0101_0101_0101
+}
+
+// The same as bytes 255 and 0.
 fn spread(bits: u8) -> u64
     ensures { λ r. ⌜ r ≡ spreadOf bits ⌝ }
 {
-    let tested = eight(bits) & 0x0102_0408_1020_4080;
-    (((tested + 0x7F7F_7F7F_7F7F_7F7F) >> 7) & 0x0101_0101_0101_0101) * 255
+    ones(bits) * 255
 }
 
 impl Stipple {
@@ -79,5 +87,14 @@ impl Inks {
         let keep = (ones & self.keep_change) ^ self.keep;
         let flip = (ones & self.flip_change) ^ self.flip;
         (old & keep) ^ flip
+    }
+
+    // The same by products: fewer operations where words are drawn one by one.
+    pub fn draw_by_products(self, bits: u8, old: u64) -> u64
+        ensures { λ r. ⌜ ((s : Stipple) → Bytes s → self ≡ inksOf s → (k : ℕ) → k < 8 → byteIn k r ≡ stippled s (bitIn k bits) (byteIn k old)) ⌝ }
+    {
+        let ones = ones(bits);
+        let kept = old & ((ones * (self.keep_change % 256)) ^ self.keep);
+        kept ^ ((ones * (self.flip_change % 256)) ^ self.flip)
     }
 }

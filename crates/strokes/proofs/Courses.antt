@@ -252,7 +252,7 @@ module _ (width : ℕ) (t : Tracer) (n long : ℕ) (s : Stretch width t n long) 
   unfolding inTurn
   next-from-origin k l = from-origin (suc k) (omega arith)
 
-  pub places : width ≤ 4294967296 → Places (courseOf width t .strides) (courseOf width t .start) n long
+  places : width ≤ 4294967296 → Places (courseOf width t .strides) (courseOf width t .start) n long
   places narrow =
       record {
         some = s .some;
@@ -264,6 +264,9 @@ module _ (width : ℕ) (t : Tracer) (n long : ℕ) (s : Stretch width t n long) 
             rw (o .start-is, o .strides-are)
             (has-room width (tracerAfter t k) narrow (o .major-is) (s .runs k (omega arith)) (from-origin k (omega arith)) (next-from-origin k l));
       }
+
+  pub course-places : (r : Course) → r ≡ courseOf width t → width ≤ 4294967296 → Places (r .strides) (r .start) n long
+  course-places r e narrow = rw e (places narrow)
 
   pub plots-on : (pen : Pen) (l m : List ℕ)
       → m ≡ inTurn (plotAt pen (courseOf width t .strides) (courseOf width t .start)) n l → m ≡ inTurn (plotOn width pen t) n l

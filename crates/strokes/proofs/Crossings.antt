@@ -1,7 +1,7 @@
 -- Where a line crosses a border of a window, and what of it lies between the borders.
 -- Assumes nothing.
 use mathlib.Core.Path.{_≡_, ap, sym, _∙_}
-use mathlib.Core.Bool.{true, _&&_}
+use mathlib.Core.Bool.{Bool, true, _&&_}
 use Prim.Native.Nat.{ℕ, suc, _+_, _-_, _*_, _/_, _%_, _^_, _≤_, _<_, min, max}
 use native.Mathlib.Nat.{mul-add, add-mul, mul-suc, mul-comm, mul-assoc, mul-le-mul-left, mul-le-mul-right, div-add-mod, mod-lt}
 use native.Mathlib.Omega.{arith}
@@ -15,7 +15,7 @@ use Rattle.geometry.proofs.Windows.{shown-of, shown-by}
 use Rattle.strokes.specs.Ranges.{Counts, Below, AtLeast, Ranges, Visible}
 use Rattle.strokes.specs.declared.ranges.Range.{Range}
 use Rattle.strokes.proofs.Between.{between}
-use Rattle.strokes.proofs.Terms.{nearest-below}
+use Rattle.strokes.proofs.Terms.{nearest-below, exact-up, exact-down}
 
 -- a coordinate by twice the exact one
 under : (n e v c : ℕ) → Near n e v → 2 * e + n ≤ 2 * (n * c) → v < c
@@ -23,17 +23,6 @@ under n e v c p l = le-of-not-lt (λ h. omega (arith, p .high, mul-le-mul-left {
 
 over : (n e v c : ℕ) → Near n e v → 2 * (n * c) < 2 * e + n → c ≤ v
 over n e v c p l = le-of-not-lt (λ h. omega (arith, p .low, below n v c h))
-
--- the exact line, up and down
-exact-up : (n i a b : ℕ) → i ≤ n → a ≤ b → exact n i a b ≡ n * a + i * (b - a)
-exact-up n i a b l o =
-    let same : i * b ≡ i * (a + (b - a)) = ap (λ (k : ℕ). i * k) (omega arith) in
-    omega (arith, same, mul-add i a (b - a), parts n i a l)
-
-exact-down : (n i a b : ℕ) → i ≤ n → b ≤ a → exact n i a b + i * (a - b) ≡ n * a
-exact-down n i a b l o =
-    let same : i * a ≡ i * (b + (a - b)) = ap (λ (k : ℕ). i * k) (omega arith) in
-    omega (arith, same, mul-add i b (a - b), parts n i a l)
 
 -- no coordinate is below both ends
 nearest-above : (n i a b m : ℕ) → 0 < n → i ≤ n → m ≤ a → m ≤ b → m ≤ nearestOf n i a b
@@ -131,12 +120,13 @@ short : (i last steps : ℕ) → i < last → last ≤ steps + 1 → i ≤ steps
 short i last steps g l = omega arith
 
 -- a line whose ends are visible is visible whole
-pub visible-whole : (w : Window) (a b p q : Point) (first n : ℕ) → first + n ≤ stepsOf a b + 1 → p ≡ a → q ≡ b
-    → (inWindow w p && inWindow w q) ≡ true → Visible w a b first n (record { start = first; end = first + n })
-visible-whole w a b p q first n l e f h =
+pub visible-whole : (w : Window) (a b : Point) (first n : ℕ) (t : Bool) → first + n ≤ stepsOf a b + 1
+    → t ≡ (inWindow w a && inWindow w b) → t ≡ true → Visible w a b first n (record { start = first; end = first + n })
+visible-whole w a b first n t l e f =
     let ends = from-a-to-b a b in
-    let at-a : inWindow w (linePoint a b 0) ≡ true = ap (inWindow w) (ends .0 ∙ sym e) ∙ and-left (inWindow w p) (inWindow w q) h in
-    let at-b : inWindow w (linePoint a b (stepsOf a b)) ≡ true = ap (inWindow w) (ends .1 ∙ sym f) ∙ and-right (inWindow w p) (inWindow w q) h in
+    let both = sym e ∙ f in
+    let at-a : inWindow w (linePoint a b 0) ≡ true = ap (inWindow w) (ends .0) ∙ and-left (inWindow w a) (inWindow w b) both in
+    let at-b : inWindow w (linePoint a b (stepsOf a b)) ≡ true = ap (inWindow w) (ends .1) ∙ and-right (inWindow w a) (inWindow w b) both in
     record {
       from-first = omega arith;
       to-last = omega arith;

@@ -49,7 +49,7 @@ module _ (c : PatternControl) (q : Pattern) where
   unfolding nextOf
   next-first h l = rw (le-ltb (q .repeat + 1) (c .scale) h, le-ltb (q .place + 1) (c .length) l)
 
-plot-dash-of : (d : Dashes) (place : ℕ) (l : List ℕ) (q r : Pattern) (pen : Pen) (new : ℕ)
+pub plot-dash-of : (d : Dashes) (place : ℕ) (l : List ℕ) (q r : Pattern) (pen : Pen) (new : ℕ)
     → ((k : ℕ) → getD l k 0 < 256) → pen ≡ dashPen d q → new ≡ drawn pen (getD l place 0) → r ≡ nextOf (d .control) q
     → dashed (set l place new) r ≡ plotDash d place (dashed l q)
 unfolding plotDash

@@ -9,3 +9,4 @@ pub mod Levels
 pub mod Dashing
 pub mod Loops
 pub mod Drawn
+pub mod Masking

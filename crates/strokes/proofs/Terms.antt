@@ -2,16 +2,17 @@
 -- Assumes nothing.
 use mathlib.Core.Path.{_≡_, refl, ap, sym, _∙_}
 use mathlib.Core.Logic.{⊎-elim, inl, inr}
-use Prim.Native.Nat.{ℕ, zero, suc, _+_, _-_, _*_, _/_, _%_, _≤_, _<_}
-use native.Mathlib.Nat.{add-mul, mul-suc, mul-assoc, one-mul, div-add-mod, mod-lt, mul-le-mul-left, le-antisymm}
+use Prim.Native.Nat.{ℕ, zero, suc, _+_, _-_, _*_, _/_, _%_, _≤_, _<_, min, max}
+use native.Mathlib.Nat.{add-mul, mul-add, mul-suc, mul-assoc, mul-left-comm, one-mul, mul-le-mul, mul-le-mul-left, mul-le-mul-right}
+use native.Mathlib.Nat.{div-add-mod, mod-lt, div-le-self}
 use native.Mathlib.Omega.{arith}
-use borrow.Author.Tests.{ltb-true, ltb-false}
-use lib.Dec.{ltb}
+use borrow.Author.Tests.{leb-true, leb-false, ltb-true, ltb-false}
+use lib.Dec.{leb, ltb}
 use Rattle.lemmas.proofs.Booleans.{by-cases}
 use Rattle.geometry.specs.Line.{exact, distance, nearestOf}
 use Rattle.geometry.proofs.Lines.{Near, near, near-unique, below, le-of-not-lt, parts}
 use Rattle.strokes.specs.declared.tracers.Stepper.{Stepper}
-use Rattle.strokes.specs.Tracers.{Axis, Up, Down, On, Room, stepped}
+use Rattle.strokes.specs.Tracers.{Axis, Up, Down, On, Room, stepped, grown, steppedBy, Leaps}
 
 -- a coordinate is at most the larger end's
 pub nearest-below : (n i a b m : ℕ) → 0 < n → i ≤ n → a < m → b < m → nearestOf n i a b < m
@@ -102,54 +103,121 @@ module _ (n i a b : ℕ) (g : Stepper) (more : i < n) (o : On n i a b g) where
       by-cases (ltb (g .error + g .growth) (2 * n)) (λ t. rw t (stays (ltb-true (g .error + g .growth) (2 * n) t)))
       (λ t. rw t (steps (ltb-false (g .error + g .growth) (2 * n) t)))
 
--- the first pixel's terms, by one division
-abbrev pub Whole : ℕ → ℕ → Type 0
-Whole n e =
-    (2 * n * ((2 * e + n - 1) / (2 * n)) ≡ 2 * (n * ((2 * e + n - 1) / (2 * n))))
-    × (2 * n * ((2 * e + n - 1) / (2 * n)) ≤ 2 * e + n - 1)
-    × (2 * e + n - 1 < 2 * n * ((2 * e + n - 1) / (2 * n)) + 2 * n)
+-- the exact line: at its first pixel, up and down
+first-exact : (n a b : ℕ) → exact n 0 a b ≡ n * a
+first-exact n a b = omega (arith, parts n 0 a (omega arith))
 
-pub whole : (n e : ℕ) → 0 < n → Whole n e
-whole n e some =
-    let t : ℕ = 2 * e + n - 1 in
-    let sum : 2 * n * (t / (2 * n)) + t % (2 * n) ≡ t = div-add-mod t (2 * n) in
-    let rest : t % (2 * n) < 2 * n = mod-lt t (omega arith) in
-    (mul-assoc 2 n (t / (2 * n)), omega (arith, sum), omega (arith, sum, rest))
+pub exact-up : (n i a b : ℕ) → i ≤ n → a ≤ b → exact n i a b ≡ n * a + i * (b - a)
+exact-up n i a b l o =
+    let same : i * b ≡ i * (a + (b - a)) = ap (λ (k : ℕ). i * k) (omega arith) in
+    omega (arith, same, mul-add i a (b - a), parts n i a l)
 
-module _ (n i a b : ℕ) (some : 0 < n) (slope : distance a b ≤ n) where
-  pub starts-up : a ≤ b
-      → On n i a b (record { coordinate = (2 * exact n i a b + n - 1) / (2 * n); error = 2 * exact n i a b + n - 1 - 2 * n * ((2 * exact n i a b + n - 1) / (2 * n)); growth = 2 * (b - a); up = 1; down = 0 })
-  starts-up l =
-      let w = whole n (exact n i a b) some in
+pub exact-down : (n i a b : ℕ) → i ≤ n → b ≤ a → exact n i a b + i * (a - b) ≡ n * a
+exact-down n i a b l o =
+    let same : i * a ≡ i * (b + (a - b)) = ap (λ (k : ℕ). i * k) (omega arith) in
+    omega (arith, same, mul-add i b (a - b), parts n i a l)
+
+-- the first pixel's terms
+pub first-on : (n a b u : ℕ) → Axis n a b → u ≡ 1 - (a - b)
+    → On n 0 a b (record { coordinate = a; error = n - u; growth = 2 * (max a b - min a b); up = u; down = 1 - u })
+first-on n a b u x e =
+    let at = first-exact n a b in
+    by-cases (leb a b)
+    (λ t.
+    let one : u ≡ 1 = omega (arith, leb-true a b t) in
+    record {
+      small = omega (arith, x .some);
+      slope = x .slope;
+      grows = omega arith;
+      way = inl (record { order = leb-true a b t; up-is = one; down-is = omega arith; term = omega (arith, x .some, at) });
+    })
+    (λ t.
+    let none : u ≡ 0 = omega (arith, leb-false a b t) in
+    record {
+      small = omega (arith, x .some);
+      slope = x .slope;
+      grows = omega arith;
+      way = inr (record { order = omega (arith, leb-false a b t); up-is = none; down-is = omega arith; term = omega (arith, at) });
+    })
+
+-- i pixels on from the first
+module _ (n i a b : ℕ) (g : Stepper) (x : Axis n a b) (l : i ≤ n) (o : On n 0 a b g) where
+  abbrev turns : ℕ
+  turns = grown i g / (2 * n)
+
+  -- what the term has grown to, parted by the division
+  divided : (2 * (n * turns) + grown i g % (2 * n) ≡ g .error + 2 * (i * distance a b)) × (grown i g % (2 * n) < 2 * n)
+  divided =
+      let grew : i * g .growth ≡ 2 * (i * distance a b) = ap (λ (k : ℕ). i * k) (o .grows) ∙ mul-left-comm i 2 (distance a b) in
+      let twice : 2 * n * turns ≡ 2 * (n * turns) = mul-assoc 2 n turns in
+      (omega (arith, div-add-mod (grown i g) (2 * n), grew, twice), mod-lt (grown i g) (omega (arith, x .some)))
+
+  -- how far the coordinate goes, by what an axis steps by
+  gone : (u v : ℕ) → g .up ≡ u → g .down ≡ v → (g .up * turns ≡ u * turns) × (g .down * turns ≡ v * turns)
+  gone u v e f = (ap (λ (k : ℕ). k * turns) e, ap (λ (k : ℕ). k * turns) f)
+
+  abbrev there : ℕ
+  there = g .coordinate + g .up * turns - g .down * turns
+
+  up-term : Up n (exact n 0 a b) a b g → 2 * (n * there) + grown i g % (2 * n) + 1 ≡ 2 * exact n i a b + n
+  up-term w =
+      let on : there ≡ g .coordinate + turns = omega (arith, gone 1 0 (w .up-is) (w .down-is)) in
+      let whole : n * there ≡ n * g .coordinate + n * turns = ap (λ (k : ℕ). n * k) on ∙ mul-add n (g .coordinate) turns in
+      let way : i * distance a b ≡ i * (b - a) = ap (λ (k : ℕ). i * k) (omega (arith, w .order)) in
+      omega (arith, whole, way, divided .0, w .term, first-exact n a b, exact-up n i a b l (w .order))
+
+  module _ (w : Down n (exact n 0 a b) a b g) where
+    fall : i * distance a b ≡ i * (a - b)
+    fall = ap (λ (k : ℕ). i * k) (omega (arith, w .order))
+
+    down-room : turns ≤ g .coordinate
+    down-room =
+        le-of-not-lt
+        (λ h.
+        let more = below n (g .coordinate) turns h in
+        omega (arith, x .some, divided, fall, w .term, first-exact n a b, exact-down n i a b l (w .order), more))
+
+    down-term : 2 * (n * there) + n ≡ 2 * exact n i a b + grown i g % (2 * n)
+    down-term =
+        let back : there + turns ≡ g .coordinate = omega (arith, gone 0 1 (w .up-is) (w .down-is), down-room) in
+        let whole : n * there + n * turns ≡ n * g .coordinate = sym (mul-add n there turns) ∙ ap (λ (k : ℕ). n * k) back in
+        omega (arith, whole, fall, divided .0, w .term, first-exact n a b, exact-down n i a b l (w .order))
+
+  pub can-leap : Leaps (2 * n) i g
+  can-leap =
       record {
-        small = omega (arith, w);
-        slope = slope;
-        grows = omega arith;
-        way = inl (record { order = l; up-is = refl; down-is = refl; term = omega (arith, w) });
+        full-some = omega (arith, x .some);
+        room = on-room n 0 a b g o x (omega arith);
+        pixels-few = omega (arith, x .steps-few);
+        down-enough =
+            ⊎-elim (λ w. omega (arith, gone 1 0 (w .up-is) (w .down-is)))
+            (λ w. omega (arith, gone 0 1 (w .up-is) (w .down-is), down-room w)) (o .way);
       }
 
-  pub starts-down : b ≤ a
-      → On n i a b (record { coordinate = (2 * exact n i a b + n - 1) / (2 * n); error = 2 * n * ((2 * exact n i a b + n - 1) / (2 * n)) + n - 2 * exact n i a b; growth = 2 * (a - b); up = 0; down = 1 })
-  starts-down l =
-      let w = whole n (exact n i a b) some in
-      record {
-        small = omega (arith, w);
-        slope = slope;
-        grows = omega arith;
-        way = inr (record { order = l; up-is = refl; down-is = refl; term = omega (arith, w) });
-      }
+  pub leaps-on : (r : Stepper) → r ≡ steppedBy (2 * n) i g → On n i a b r
+  unfolding steppedBy
+  leaps-on r e =
+      rw e
+      (record {
+        small = divided .1;
+        slope = o .slope;
+        grows = o .grows;
+        way =
+            ⊎-elim
+            (λ w. inl (record { order = w .order; up-is = w .up-is; down-is = w .down-is; term = up-term w }))
+            (λ w. inr (record { order = w .order; up-is = w .up-is; down-is = w .down-is; term = down-term w }))
+            (o .way);
+      })
 
--- at the first pixel E is n a, and the coordinate is a
-pub first-term : (n i a b : ℕ) → i ≡ 0 → 2 * exact n i a b + n - 1 ≡ 2 * (n * a) + n - 1
-first-term n i a b h =
-    let whole : n - i ≡ n = omega arith in
-    let left : (n - i) * a ≡ n * a = ap (λ k. k * a) whole in
-    let right : i * b ≡ 0 * b = ap (λ k. k * b) h in
-    omega (arith, left, right)
-
-pub first-coordinate : (n a t : ℕ) → 0 < n → t ≡ 2 * (n * a) + n - 1 → a ≡ t / (2 * n)
-first-coordinate n a t some e =
-    let q : ℕ = (2 * (n * a) + n - 1) / (2 * n) in
-    let w = whole n (n * a) some in
-    le-antisymm (le-of-not-lt (λ l. omega (arith, w, below n q a l))) (le-of-not-lt (λ l. omega (arith, w, below n a q l)))
-    ∙ ap (λ t. t / (2 * n)) (sym e)
+-- no product is too large for the machine
+pub leap-room : (full i : ℕ) (g : Stepper) → Leaps full i g
+    → (i * g .growth ≤ 281474976710656) × (g .up * (grown i g / full) ≤ 562949953421312) × (g .down * (grown i g / full) ≤ 562949953421312)
+leap-room full i g l =
+    let r = l .room in
+    let far : i * g .growth ≤ 281474976710656 =
+    mul-le-mul {n₁ = i} {m₁ = g .growth} {n₂ = 65536} {m₂ = 4294967296} (l .pixels-few) (omega (arith, r .full-most, r .growth-most)) in
+    let most : grown i g / full ≤ 562949953421312 = omega (arith, div-le-self (grown i g) full, r .error-less, r .full-most, far) in
+    (far, once (g .up) (grown i g / full) (r .up-most) most, once (g .down) (grown i g / full) (r .down-most) most)
+  where
+    once : (k m : ℕ) → k ≤ 1 → m ≤ 562949953421312 → k * m ≤ 562949953421312
+    once k m h l = omega (arith, l, mul-le-mul-right {m = k} {n = 1} m h, one-mul m)

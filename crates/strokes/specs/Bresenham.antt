@@ -72,6 +72,11 @@ pub record Places (s : Strides) (c : Bresenham) (n long : ℕ) : Type 0 where
   pub inside : (k : ℕ) → k < n → bresenhamAfter s c k .place < long
   pub moves : (k : ℕ) → k + 1 < n → Moves s (bresenhamAfter s c k)
 
+-- Each place is next to the one before it.
+pub record InRow (s : Strides) : Type 0 where
+  pub level : s .growth ≡ 0
+  pub next : s .ahead + s .back ≡ 1
+
 -- One visible pixel of a dashed line.
 unfoldable pub plotDash : Dashes → ℕ → Dashed → Dashed
 plotDash d place s =

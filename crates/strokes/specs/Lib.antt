@@ -3,3 +3,4 @@ pub mod Tracers
 pub mod Bresenham
 pub mod Ranges
 pub mod Phases
+pub mod Masks

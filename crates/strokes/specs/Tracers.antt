@@ -2,7 +2,7 @@
 use mathlib.Core.Path.{_≡_}
 use mathlib.Core.Bool.{true, cond}
 use mathlib.Core.Logic.{_⊎_}
-use Prim.Native.Nat.{ℕ, _+_, _-_, _*_, _≤_, _<_}
+use Prim.Native.Nat.{ℕ, _+_, _-_, _*_, _/_, _%_, _≤_, _<_}
 use lib.Dec.{ltb}
 use Rattle.geometry.specs.Clip.{inWindow}
 use Rattle.geometry.specs.Line.{exact, distance, stepsOf, linePoint}
@@ -66,6 +66,27 @@ pub record Room (full : ℕ) (g : Stepper) : Type 0 where
   pub coordinate-most : g .coordinate ≤ 131072
   pub up-most : g .up ≤ 1
   pub down-most : g .down ≤ 1
+
+-- i pixels on, the coordinate steps each time that the term is full.
+abbrev pub grown : ℕ → Stepper → ℕ
+grown i g = g .error + i * g .growth
+
+unfoldable pub steppedBy : ℕ → ℕ → Stepper → Stepper
+steppedBy full i g =
+    record {
+      coordinate = g .coordinate + g .up * (grown i g / full) - g .down * (grown i g / full);
+      error = grown i g % full;
+      growth = g .growth;
+      up = g .up;
+      down = g .down;
+    }
+
+-- These are in the numbers of the machine.
+pub record Leaps (full i : ℕ) (g : Stepper) : Type 0 where
+  pub full-some : 0 < full
+  pub room : Room full g
+  pub pixels-few : i ≤ 65536
+  pub down-enough : g .down * (grown i g / full) ≤ g .coordinate + g .up * (grown i g / full)
 
 abbrev pub pointOn : Tracer → Point
 pointOn t = record { x = t .x .coordinate; y = t .y .coordinate }

@@ -1,13 +1,18 @@
 // A stretch of a line that is visible whole, by Bresenham's algorithm: the place in the buffer moves by additions.
 ghost use mathlib.Core.Path.{_≡_};
+ghost use mathlib.Core.Bool.{_&&_};
 ghost use Prim.Native.Nat.{_+_, _≤_, _<_};
+ghost use lib.Dec.{eqb};
 ghost use lib.ListN.{length};
 ghost use Rattle.geometry.specs.Coordinates.{origin};
 ghost use Rattle.strokes.specs.Strokes.{dashed};
 ghost use Rattle.lemmas.specs.Turns.{inTurn};
 ghost use Rattle.strokes.specs.Tracers.{Room, RoomBoth};
-ghost use Rattle.strokes.specs.Bresenham.{Moves, moved, courseBy, courseOf, Places, FromOrigin, plotAt, plotDashAt, Stretch, plotOn, plotDashOn};
+ghost use Rattle.strokes.specs.Bresenham.{Moves, moved, courseBy, courseOf, Places, InRow, FromOrigin};
+ghost use Rattle.strokes.specs.Bresenham.{plotAt, plotDashAt, Stretch, plotOn, plotDashOn};
 use crate::Dashes;
+use crate::masks::dash_rounds;
+use crate::masks::goes_round;
 use crate::phases::back_pen;
 use crate::phases::draw_bit;
 use crate::phases::phase_at;
@@ -19,19 +24,29 @@ use registers::Pattern;
 use rows::fill_row;
 
 // The algorithm's state: a pixel's place, and how much the minor axis' error term may grow before it is full.
-struct Bresenham {
-    place: usize,
-    slack: usize,
+pub(crate) struct Bresenham {
+    pub(crate) place: usize,
+    pub(crate) slack: usize,
 }
 
 // What a place moves by: ahead and back at each pixel, up and down where the growth leaves no slack, which then gains `wrap`.
-struct Strides {
-    growth: usize,
-    wrap: usize,
-    ahead: usize,
-    back: usize,
-    up: usize,
-    down: usize,
+pub(crate) struct Strides {
+    pub(crate) growth: usize,
+    pub(crate) wrap: usize,
+    pub(crate) ahead: usize,
+    pub(crate) back: usize,
+    pub(crate) up: usize,
+    pub(crate) down: usize,
+}
+
+impl Strides {
+    // Whether each place is next to the one before it.
+    fn is_row(self) -> bool
+        requires { ⌜ self .ahead + self .back ≤ 8589934592 ⌝ }
+        ensures { λ r. ⌜ r ≡ (eqb (self .growth) 0 && eqb (self .ahead + self .back) 1) ⌝ }
+    {
+        (self.growth == 0) & (self.ahead + self.back == 1)
+    }
 }
 
 impl Bresenham {
@@ -147,7 +162,7 @@ fn store_places(buffer: &mut [u8], pen: Pen, s: Strides, start: Bresenham, n: us
 
 // The same as one row, where each place is next to the one before it.
 fn fill_places(buffer: &mut [u8], pen: Pen, s: Strides, start: Bresenham, n: usize)
-    requires { ⌜ Places s start n (length (now buffer)) × (s .growth ≡ 0) × (s .ahead + s .back ≡ 1) ⌝ }
+    requires { ⌜ Places s start n (length (now buffer)) × InRow s ⌝ }
     ensures { λ _. ⌜ now (buffer .exit) ≡ inTurn (plotAt pen s start) n (now (buffer .entry)) ⌝ }
 {
     if s.back == 0 {
@@ -164,7 +179,7 @@ pub(crate) fn draw_visible(buffer: &mut [u8], width: u32, pen: Pen, t: Tracer, n
 {
     let course = course_of(t, width);
     let s = course.strides;
-    if (s.growth == 0) & (s.ahead + s.back == 1) {
+    if s.is_row() {
         fill_places(buffer, pen, s, course.start, n);
         return;
     }
@@ -221,5 +236,10 @@ pub(crate) fn dash_visible(
     ensures { λ r. ⌜ dashed (now (buffer .exit)) r ≡ inTurn (plotDashOn width dashes t) n (dashed (now (buffer .entry)) pattern) ⌝ }
 {
     let course = course_of(t, width);
-    dash_places(buffer, dashes, pattern, course.strides, course.start, n)
+    let s = course.strides;
+    let row = s.is_row();
+    if row & goes_round(dashes.control, pattern, n) {
+        return dash_rounds(buffer, dashes, pattern, s, course.start, n);
+    }
+    dash_places(buffer, dashes, pattern, s, course.start, n)
 }

@@ -5,12 +5,15 @@ ghost use Rattle.geometry.specs.Coordinates.{pointOf};
 ghost use Rattle.strokes.specs.Strokes.{windowFits, strokeFits, strokeOf, dashed, dashesOf};
 
 mod bresenham;
+mod masks;
 mod phases;
 mod ranges;
 mod tracers;
 
 use crate::bresenham::dash_visible;
 use crate::bresenham::draw_visible;
+use crate::ranges::Range;
+use crate::ranges::ends_visible;
 use crate::ranges::visible_range;
 use crate::tracers::tracer_at;
 use entries::PatternControl;
@@ -86,7 +89,14 @@ pub fn draw_line(
     if !stroke_fits(width, window, from, to, first, n, buffer.len()) {
         return;
     }
-    let visible = visible_range(window, from, to, first, n);
+    let visible = if ends_visible(window, from, to) {
+        Range {
+            start: first,
+            end: first + n,
+        }
+    } else {
+        visible_range(window, from, to, first, n)
+    };
     if visible.end <= visible.start {
         return;
     }
@@ -112,7 +122,14 @@ pub fn draw_dashes(
         return start;
     }
     let control = dashes.control;
-    let visible = visible_range(window, from, to, first, n);
+    let visible = if ends_visible(window, from, to) {
+        Range {
+            start: first,
+            end: first + n,
+        }
+    } else {
+        visible_range(window, from, to, first, n)
+    };
     if visible.end <= visible.start {
         return start.after(control, n as u32);
     }

@@ -1,5 +1,6 @@
 // The pixels of a line that are visible in a window: one stretch, found by divisions.
 ghost use mathlib.Core.Path.{_≡_};
+ghost use mathlib.Core.Bool.{_&&_};
 ghost use Prim.Native.Nat.{_+_, _-_, _≤_, _<_};
 ghost use Rattle.geometry.specs.Coordinates.{pointOf};
 ghost use Rattle.geometry.specs.Clip.{inWindow};
@@ -80,7 +81,16 @@ fn visible(w: Window, p: Point) -> bool
     (w.left <= p.x) & (p.x < w.right) & (w.top <= p.y) & (p.y < w.bottom)
 }
 
-// Of n pixels of a line from pixel `first` on, those that are visible in a window.
+// Whether both ends of a line are visible in a window, and so all of it.
+pub(crate) fn ends_visible(w: Window, from: u32, to: u32) -> bool
+    ensures { λ r. ⌜ r ≡ (inWindow w (pointOf from) && inWindow w (pointOf to)) ⌝ }
+{
+    let a = point_of(from);
+    let b = point_of(to);
+    visible(w, a) & visible(w, b)
+}
+
+// Of n pixels of a line from pixel `first` on, those that are visible in a window; for lines with a hidden end.
 pub(crate) fn visible_range(w: Window, from: u32, to: u32, first: usize, n: usize) -> Range
     requires { ⌜ (0 < stepsOf (pointOf from) (pointOf to)) × (first + n ≤ stepsOf (pointOf from) (pointOf to) + 1) ⌝ }
     ensures { λ r. ⌜ Visible w (pointOf from) (pointOf to) first n r ⌝ }
@@ -88,12 +98,6 @@ pub(crate) fn visible_range(w: Window, from: u32, to: u32, first: usize, n: usiz
     let a = point_of(from);
     let b = point_of(to);
     let last = first + n;
-    if visible(w, a) & visible(w, b) {
-        return Range {
-            start: first,
-            end: last,
-        };
-    }
     let steps = line_steps(from, to);
     let x = range_of(steps, a.x, b.x, w.left, w.right);
     if x.end <= x.start {

@@ -1,11 +1,13 @@
 // A line's pixels by an error term for each axis.
 ghost use mathlib.Core.Path.{_≡_};
-ghost use Prim.Native.Nat.{_+_, _-_, _*_, _/_, _≤_, _<_};
+ghost use Prim.Native.Nat.{_-_, _≤_, _<_};
 ghost use Rattle.geometry.specs.Coordinates.{pointOf};
 ghost use Rattle.geometry.specs.Line.{stepsOf};
-ghost use Rattle.strokes.specs.Tracers.{Axis, On, Traces};
+ghost use Rattle.strokes.specs.Tracers.{Axis, On, Leaps, steppedBy, Traces};
 use geometry::line_steps;
 use geometry::point_of;
+use numbers::max;
+use numbers::min;
 
 // One coordinate of a pixel. The error term grows at each pixel, and the coordinate steps up or down where it is full.
 pub(crate) struct Stepper {
@@ -16,41 +18,43 @@ pub(crate) struct Stepper {
     pub(crate) down: usize,
 }
 
-// The coordinate at pixel i, t / 2n; at the first pixel it is a, and needs no division.
-fn coordinate_at(n: usize, i: usize, a: usize, t: usize) -> usize
-    requires { ⌜ (0 < n) × (n < 65536) × (i ≡ 0 → t ≡ 2 * (n * a) + n - 1) ⌝ }
-    ensures { λ r. ⌜ r ≡ t / (2 * n) ⌝ }
+// 1 where an axis from a to b goes up, or nowhere; else 0.
+fn rise(a: usize, b: usize) -> usize
+    ensures { λ r. ⌜ r ≡ 1 - (a - b) ⌝ }
 {
-    if i == 0 {
-        return a;
-    }
-    t / (2 * n)
+    if a <= b { 1 } else { 0 }
 }
 
-// At pixel i of a line of n steps, along an axis from a to b.
-fn stepper_at(n: usize, i: usize, a: usize, b: usize) -> Stepper
-    requires { ⌜ Axis n a b × (i ≤ n) ⌝ }
-    ensures { λ r. ⌜ On n i a b r ⌝ }
+// At the first pixel of a line of n steps, along an axis from a to b.
+fn stepper_from(n: usize, a: usize, b: usize) -> Stepper
+    requires { ⌜ Axis n a b ⌝ }
+    ensures { λ r. ⌜ On n 0 a b r ⌝ }
 {
-    let e = (n - i) * a + i * b;
-    let t = 2 * e + n - 1;
-    let m = 2 * n;
-    let v = coordinate_at(n, i, a, t);
-    if a <= b {
+    let up = rise(a, b);
+    let distance = max(a, b) - min(a, b);
+    Stepper {
+        coordinate: a,
+        error: n - up,
+        growth: 2 * distance,
+        up,
+        down: 1 - up,
+    }
+}
+
+impl Stepper {
+    // i pixels on, by one division.
+    fn after(self, full: usize, i: usize) -> Stepper
+        requires { ⌜ Leaps full i self ⌝ }
+        ensures { λ r. ⌜ r ≡ steppedBy full i self ⌝ }
+    {
+        let error = self.error + i * self.growth;
+        let steps = error / full;
         Stepper {
-            coordinate: v,
-            error: t - m * v,
-            growth: 2 * (b - a),
-            up: 1,
-            down: 0,
-        }
-    } else {
-        Stepper {
-            coordinate: v,
-            error: m * v + n - 2 * e,
-            growth: 2 * (a - b),
-            up: 0,
-            down: 1,
+            coordinate: self.coordinate + self.up * steps - self.down * steps,
+            error: error % full,
+            growth: self.growth,
+            up: self.up,
+            down: self.down,
         }
     }
 }
@@ -70,7 +74,15 @@ pub(crate) fn tracer_at(from: u32, to: u32, i: usize) -> Tracer
     let a = point_of(from);
     let b = point_of(to);
     let n = line_steps(from, to);
-    let x = stepper_at(n, i, a.x, b.x);
-    let y = stepper_at(n, i, a.y, b.y);
-    Tracer { x, y, full: 2 * n }
+    let x = stepper_from(n, a.x, b.x);
+    let y = stepper_from(n, a.y, b.y);
+    let full = 2 * n;
+    if i == 0 {
+        return Tracer { x, y, full };
+    }
+    Tracer {
+        x: x.after(full, i),
+        y: y.after(full, i),
+        full,
+    }
 }

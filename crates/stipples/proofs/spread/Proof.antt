@@ -1,28 +1,21 @@
--- `stipples::spread` meets its contract. A masked word is at most its mask (`and-le-r`), so that neither the sum nor the
--- product overflows; the result is `spreadOf` operation by operation.
+-- `stipples::spread` meets its contract: bytes 1 and 0 are small enough (`ones-most`), and the result is `spreadOf`.
 -- Assumes nothing.
 use borrow.Author.Needs.{needs}
 use native.Mathlib.Omega.{arith}
-use Prim.Native.Nat.{_+_, _/_, _^_}
-use lib.Bits.{bitAnd, and-le-r}
-use Rattle.stipples.specs.Words.{eightOf, spreadOf}
+use Rattle.stipples.specs.Words.{spreadOf}
+use Rattle.stipples.proofs.Bytes.{ones-most}
 use Rattle.stipples.proofs.spread.Statement.{statement}
 use Rattle.stipples.proofs.spread.Tie as tie
 
-eight-requires : tie.Need-eight-requires
-eight-requires c κs = search needs
-
-add-result : tie.Need-add-result
-add-result c = rw (c .eight .ensures) (omega (arith, and-le-r (eightOf (c .before .args .bits)) 0x0102_0408_1020_4080))
+ones-requires : tie.Need-ones-requires
+ones-requires c κs = search needs
 
 mul-result : tie.Need-mul-result
-mul-result c =
-    let tested = bitAnd (eightOf (c .before .args .bits)) 0x0102_0408_1020_4080 in
-    rw (c .eight .ensures) (omega (arith, and-le-r ((tested + 0x7F7F_7F7F_7F7F_7F7F) / 2 ^ 7) 0x0101_0101_0101_0101))
+mul-result c = omega (arith, c .ones .ensures, ones-most (c .before .args .bits))
 
 returns : tie.Need-returns
 unfolding spreadOf
-returns c = rw (c .eight .ensures)
+returns c = rw (c .ones .ensures)
 
 pub spread-spec : {M : Type 1} → statement M
-spread-spec = tie.close (tie.spec eight-requires add-result mul-result returns)
+spread-spec = tie.close (tie.spec ones-requires mul-result returns)

@@ -1,10 +1,7 @@
--- Eight pixels, and for 16 eight more, each time by `expanded-more`.
+-- Eight pixels (`eight-only`), and for 16 eight more (`eight-more`).
 use borrow.Author.Needs.{needs}
-use mathlib.Core.Path.{refl, sym}
-use Prim.Native.Nat.{_+_, _*_}
 use native.Mathlib.Omega.{arith}
-use Rattle.lemmas.proofs.Sweeps.{sweep-start}
-use Rattle.blits.proofs.Expanded.{expanded-more, eight-of, only-eight}
+use Rattle.blits.proofs.Expanded.{eight-of, eight-only, eight-more}
 use Rattle.blits.proofs.bits.expand_narrow.Statement.{statement}
 use Rattle.blits.proofs.bits.expand_narrow.Tie as tie
 
@@ -14,13 +11,13 @@ bits-at-requires c κs =
     let f = start .pre .3 in
     (omega arith, omega arith, record { in-byte = f .in-byte; within = omega (arith, f .within, eight-of (start .args .n) (start .pre .0)) })
 
-draw-eight-requires : tie.Need-draw-eight-requires
-draw-eight-requires c κs =
+draw-glyph-byte-requires : tie.Need-draw-glyph-byte-requires
+draw-glyph-byte-requires c κs =
     let start = c .before .before .before .before in
     (start .pre .1, omega (arith, start .pre .2, eight-of (start .args .n) (start .pre .0)))
 
-add-draw-eight : tie.Need-add-draw-eight
-add-draw-eight c = search needs
+add-draw-glyph-byte : tie.Need-add-draw-glyph-byte
+add-draw-glyph-byte c = search needs
 
 add-bits-at : tie.Need-add-bits-at
 add-bits-at c = search needs
@@ -28,8 +25,8 @@ add-bits-at c = search needs
 bits-at-requires-2 : tie.Need-bits-at-requires-2
 bits-at-requires-2 c κs = search needs
 
-draw-eight-requires-2 : tie.Need-draw-eight-requires-2
-draw-eight-requires-2 c κs = search needs
+draw-glyph-byte-requires-2 : tie.Need-draw-glyph-byte-requires-2
+draw-glyph-byte-requires-2 c κs = search needs
 
 same-length : tie.Need-same-length
 same-length c = search needs
@@ -41,12 +38,12 @@ returns c =
     let told = had-second .before .before in
     let first = told .before .before .before in
     let had-first = first .before in
-    let a = had-first .before .before .before .before .args in
-    let from = 8 * a .byte + a .first in
-    expanded-more (a .s) 8 8 (a .n) (a .buffer .now) _ _ (a .at) (a .source .now) from _ _ (8 * (a .byte + 1) + a .first) (sym (told .if1 .taken)) refl (omega arith)
-    (expanded-more (a .s) 0 8 8 (a .buffer .now) _ _ (a .at) (a .source .now) from _ _ _ refl (omega arith) (omega arith) (sweep-start _ _ _) (first .draw-eight .ensures)
-    (had-first .bits-at .ensures))
-    (second .draw-eight2 .ensures) (had-second .bits-at2 .ensures)
+    let start = had-first .before .before .before .before in
+    let a = start .args in
+    eight-more (a .s) (a .n) (a .buffer .now) (a .at) (a .source .now) (a .byte) (a .first) (start .pre .0) _ _
+    (first .draw-glyph-byte .kept .0) (first .draw-glyph-byte .ensures)
+    (had-first .bits-at .ensures) (told .if1 .taken) _ _ (second .draw-glyph-byte2 .kept .0) (second .draw-glyph-byte2 .ensures)
+    (had-second .bits-at2 .ensures)
 
 same-length-2 : tie.Need-same-length-2
 same-length-2 c = search needs
@@ -57,19 +54,20 @@ returns-2 c =
     let had = first .before in
     let start = had .before .before .before .before in
     let a = start .args in
-    expanded-more (a .s) 0 8 (a .n) (a .buffer .now) _ _ (a .at) (a .source .now) (8 * a .byte + a .first) _ _ _ (only-eight (a .n) (start .pre .0) (c .if1 .left)) (omega arith) (omega arith)
-    (sweep-start _ _ _) (first .draw-eight .ensures) (had .bits-at .ensures)
+    eight-only (a .s) (a .n) (a .buffer .now) (a .at) (a .source .now) (a .byte) (a .first) (start .pre .0) _ _
+    (first .draw-glyph-byte .kept .0) (first .draw-glyph-byte .ensures)
+    (had .bits-at .ensures) (c .if1 .left)
 
 pub expand-narrow-spec : {M : Type 1} → statement M
 expand-narrow-spec =
     tie.close
     (tie.spec
     bits-at-requires
-    draw-eight-requires
-    add-draw-eight
+    draw-glyph-byte-requires
+    add-draw-glyph-byte
     add-bits-at
     bits-at-requires-2
-    draw-eight-requires-2
+    draw-glyph-byte-requires-2
     same-length
     returns
     same-length-2

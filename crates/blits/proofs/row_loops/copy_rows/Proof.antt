@@ -1,69 +1,68 @@
--- The loop keeps `Rowed`: k rows are drawn and the rest are as before. Each turn is one row more, by `rowed-turn`.
+-- By the mix and the length: each branch is the contract of its loop.
 use borrow.Author.Needs.{needs}
-use mathlib.Core.Path.{refl}
-use mathlib.Core.Bool.{Bool, false}
-use Prim.Native.Nat.{_-_}
-use native.Mathlib.Omega.{arith}
-use Rattle.blits.specs.declared.Paint.the-variants.{Copied}
-use Rattle.blits.proofs.Painted.{copied-from}
-use Rattle.blits.proofs.Rowed.{Rowed, rowed-start, rowed-turn, rowed-end, row-inside, source-inside, row-far, source-far}
+use Rattle.rows.proofs.Tests.{between}
 use Rattle.blits.proofs.row_loops.copy_rows.Statement.{statement}
 use Rattle.blits.proofs.row_loops.copy_rows.Tie as tie
 
-abbrev Inv-loop : tie.InvT-loop
-Inv-loop up width stride buffer₀ at other from n rows mix to₀ source₀ k₀ buffer to source k =
-    (back : Bool) → Rowed (Copied mix) back up width stride other at from n rows buffer₀ buffer to source k
+is-plain-requires : tie.Need-is-plain-requires
+is-plain-requires c κs = search needs
 
-abbrev μ-loop : tie.MeasureT-loop
-μ-loop up width stride buffer₀ at other from n rows mix to₀ source₀ k₀ buffer to source k = rows - k
+copy-plain-rows-requires : tie.Need-copy-plain-rows-requires
+copy-plain-rows-requires c κs = search needs
 
-loop-holds : tie.Need-loop-holds Inv-loop μ-loop
-loop-holds c =
-    let start = c .before .before in
-    λ back. rowed-start _ back _ _ _ _ _ _ _ _ _ _ (start .pre .0) (λ _. start .pre .1) refl
+same-length : tie.Need-same-length
+same-length c = search needs
 
-copy-row-requires : tie.Need-copy-row-requires Inv-loop μ-loop
-copy-row-requires c κs = search needs
+returns : tie.Need-returns
+returns c =
+    let plain = c .before .before .before .before in
+    c .before .before .copy-plain-rows .ensures _ (plain .before .is-plain .ensures (plain .if1 .taken))
 
-along-requires : tie.Need-along-requires Inv-loop μ-loop
-along-requires c κs = row-far (c .before .before .before .before .before .loop .inv false) (omega arith)
+copy-short-rows-requires : tie.Need-copy-short-rows-requires
+copy-short-rows-requires c κs =
+    let short = c .before in
+    let start = short .before .before .before .before .before in
+    let h = between 8 _ 16 (short .if2 .taken) in
+    (h .0, h .1, start .pre .0, start .pre .1)
 
-along-requires-2 : tie.Need-along-requires-2 Inv-loop μ-loop
-along-requires-2 c κs = source-far (c .before .before .before .before .before .before .loop .inv false) (omega arith) refl
+same-length-2 : tie.Need-same-length-2
+same-length-2 c = search needs
 
-add-k : tie.Need-add-k Inv-loop μ-loop
-add-k c = omega arith
+returns-2 : tie.Need-returns-2
+returns-2 c = c .before .before .copy-short-rows .ensures
 
-loop-less : tie.Need-loop-less Inv-loop μ-loop
-loop-less c = omega arith
+copy-long-rows-requires : tie.Need-copy-long-rows-requires
+copy-long-rows-requires c κs = search needs
 
-loop-again : tie.Need-loop-again Inv-loop μ-loop
-loop-again c =
-    let done = c .before .before .before .before in
-    let rowed = done .before .before .before .loop .inv in
-    λ back.
-    let r = rowed back in
-    rowed-turn r (omega arith) _ _ _ (done .copy-row .kept .0) (c .before .along .ensures) (λ _ _. c .along2 .ensures)
-    (copied-from back _ _ _ _ _ _ _ (row-inside r (omega arith)) (source-inside r (omega arith) refl) (done .copy-row .ensures))
+same-length-3 : tie.Need-same-length-3
+same-length-3 c = search needs
 
-same-length : tie.Need-same-length Inv-loop μ-loop
-same-length c = c .before .loop .inv false .long
+returns-3 : tie.Need-returns-3
+returns-3 c = c .before .before .copy-long-rows .ensures
 
-returns : tie.Need-returns Inv-loop μ-loop
-returns c = λ back. rowed-end (c .before .loop .inv back) (omega arith)
+copy-any-rows-requires : tie.Need-copy-any-rows-requires
+copy-any-rows-requires c κs = search needs
+
+same-length-4 : tie.Need-same-length-4
+same-length-4 c = search needs
+
+returns-4 : tie.Need-returns-4
+returns-4 c = c .before .before .copy-any-rows .ensures
 
 pub copy-rows-spec : {M : Type 1} → statement M
 copy-rows-spec =
     tie.close
     (tie.spec
-    Inv-loop
-    μ-loop
-    loop-holds
-    copy-row-requires
-    along-requires
-    along-requires-2
-    add-k
-    loop-less
-    loop-again
+    is-plain-requires
+    copy-plain-rows-requires
     same-length
-    returns)
+    returns
+    copy-short-rows-requires
+    same-length-2
+    returns-2
+    copy-long-rows-requires
+    same-length-3
+    returns-3
+    copy-any-rows-requires
+    same-length-4
+    returns-4)

@@ -1,68 +1,86 @@
--- The loop keeps `Rowed`: k rows are drawn and the rest are as before. Each turn is one row more, by `rowed-turn`.
-use mathlib.Core.Path.{refl}
-use mathlib.Core.List.{List, []}
-use Prim.Native.Nat.{ℕ, _-_}
-use native.Mathlib.Omega.{arith}
+-- By the mix, the length and the direction: each branch is the contract of its loop.
+use borrow.Author.Needs.{needs}
+use mathlib.Core.Bool.{true, false}
+use Rattle.lemmas.proofs.Booleans.{and-left}
+use Rattle.rows.proofs.Tests.{between}
 use Rattle.blits.specs.declared.Paint.the-variants.{Moved}
-use Rattle.blits.proofs.Rowed.{Rowed, rowed-start, rowed-turn, rowed-end, row-inside, source-inside, row-far, source-far}
+use Rattle.blits.proofs.Rowed.{in-direction}
 use Rattle.blits.proofs.row_loops.move_rows.Statement.{statement}
 use Rattle.blits.proofs.row_loops.move_rows.Tie as tie
 
-abbrev Inv-loop : tie.InvT-loop
-Inv-loop back up width stride buffer₀ at from n rows mix to₀ source₀ k₀ buffer to source k =
-    (other : List ℕ) → Rowed (Moved mix) back up width stride other at from n rows buffer₀ buffer to source k
+is-plain-requires : tie.Need-is-plain-requires
+is-plain-requires c κs = search needs
 
-abbrev μ-loop : tie.MeasureT-loop
-μ-loop back up width stride buffer₀ at from n rows mix to₀ source₀ k₀ buffer to source k = rows - k
+move-plain-rows-requires : tie.Need-move-plain-rows-requires
+move-plain-rows-requires c κs = search needs
 
-loop-holds : tie.Need-loop-holds Inv-loop μ-loop
-loop-holds c =
-    let start = c .before in
-    λ other. rowed-start _ _ _ _ _ other _ _ _ _ _ _ (start .pre .0) (λ _. start .pre .1) refl
+same-length : tie.Need-same-length
+same-length c = search needs
 
-move-pixels-requires : tie.Need-move-pixels-requires Inv-loop μ-loop
-move-pixels-requires c κs =
-    let r = c .before .before .loop .inv [] in
-    (row-inside r (omega arith), source-inside r (omega arith) refl)
+returns : tie.Need-returns
+returns c =
+    let plain = c .before .before .before .before in
+    c .before .before .move-plain-rows .ensures _ (plain .before .is-plain .ensures (plain .if1 .taken))
 
-along-requires : tie.Need-along-requires Inv-loop μ-loop
-along-requires c κs = row-far (c .before .before .before .before .before .loop .inv []) (omega arith)
+reads-last-row-requires : tie.Need-reads-last-row-requires
+reads-last-row-requires c κs = search needs
 
-along-requires-2 : tie.Need-along-requires-2 Inv-loop μ-loop
-along-requires-2 c κs = source-far (c .before .before .before .before .before .before .loop .inv []) (omega arith) refl
+move-short-rows-requires : tie.Need-move-short-rows-requires
+move-short-rows-requires c κs =
+    let short = c .before in
+    let start = short .before .before .before .before .before in
+    let h = between 8 _ 16 (and-left _ _ (short .if2 .taken)) in
+    (h .0, h .1, start .pre .0, start .pre .1)
 
-add-k : tie.Need-add-k Inv-loop μ-loop
-add-k c = omega arith
+same-length-2 : tie.Need-same-length-2
+same-length-2 c = search needs
 
-loop-less : tie.Need-loop-less Inv-loop μ-loop
-loop-less c = omega arith
+returns-2 : tie.Need-returns-2
+returns-2 c = c .before .before .move-short-rows .ensures
 
-loop-again : tie.Need-loop-again Inv-loop μ-loop
-loop-again c =
-    let done = c .before .before .before .before in
-    let rowed = done .before .before .before .loop .inv in
+move-left-rows-requires : tie.Need-move-left-rows-requires
+move-left-rows-requires c κs = search needs
+
+same-length-3 : tie.Need-same-length-3
+same-length-3 c = search needs
+
+returns-3 : tie.Need-returns-3
+returns-3 c =
+    let left = c .before .before .before .before in
+    let a = left .before .before .before .before .before .before .args in
     λ other.
-    rowed-turn (rowed other) (omega arith) _ _ _ (done .move-pixels .kept .1 .0) (c .before .along .ensures) (λ _ _. c .along2 .ensures)
-    (done .move-pixels .ensures other)
+    in-direction (a .back) true (Moved (a .mix)) (a .up) (a .width) (a .stride) other (a .at) (a .from) (a .n) (a .rows) (a .buffer .now) _ (left .if3 .taken)
+    (c .before .before .move-left-rows .ensures other)
 
-same-length : tie.Need-same-length Inv-loop μ-loop
-same-length c = c .before .loop .inv [] .long
+move-right-rows-requires : tie.Need-move-right-rows-requires
+move-right-rows-requires c κs = search needs
 
-returns : tie.Need-returns Inv-loop μ-loop
-returns c = λ other. rowed-end (c .before .loop .inv other) (omega arith)
+same-length-4 : tie.Need-same-length-4
+same-length-4 c = search needs
+
+returns-4 : tie.Need-returns-4
+returns-4 c =
+    let right = c .before .before .before .before in
+    let a = right .before .before .before .before .before .before .args in
+    λ other.
+    in-direction (a .back) false (Moved (a .mix)) (a .up) (a .width) (a .stride) other (a .at) (a .from) (a .n) (a .rows) (a .buffer .now) _ (right .if3 .left)
+    (c .before .before .move-right-rows .ensures other)
 
 pub move-rows-spec : {M : Type 1} → statement M
 move-rows-spec =
     tie.close
     (tie.spec
-    Inv-loop
-    μ-loop
-    loop-holds
-    move-pixels-requires
-    along-requires
-    along-requires-2
-    add-k
-    loop-less
-    loop-again
+    is-plain-requires
+    move-plain-rows-requires
     same-length
-    returns)
+    returns
+    reads-last-row-requires
+    move-short-rows-requires
+    same-length-2
+    returns-2
+    move-left-rows-requires
+    same-length-3
+    returns-3
+    move-right-rows-requires
+    same-length-4
+    returns-4)

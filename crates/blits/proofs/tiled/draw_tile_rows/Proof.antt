@@ -1,13 +1,14 @@
 -- The loop keeps `Visiting`, with the covered buffer as its source: k visits are done, and the next stands in its row and column. Each
--- turn is the rest of one row, a box of the tile (`row-tile`, `row-box-visits`, `visiting-turn`).
+-- turn is a box of the tile, of the visits that are drawn at once (`part-tile`, `part-visits`, `visiting-turn`).
 use borrow.Author.Needs.{needs}
-use Prim.Native.Nat.{_-_, _<_}
+use Prim.Native.Nat.{_+_, _-_, _*_, _<_, _≤_}
 use native.Mathlib.Omega.{arith}
 use Rattle.geometry.specs.Blit.{widthOf}
+use Rattle.blits.specs.Blits.{AtOnce}
 use Rattle.blits.specs.Tiled.{copyOf, Doubled}
-use Rattle.blits.proofs.Loops.{across-some, Visiting, visiting-start, visiting-far, visiting-row, visiting-more, visiting-turn, visiting-end}
-use Rattle.blits.proofs.RowBoxes.{row-box-visits}
-use Rattle.blits.proofs.Planes.{plane, plane-fitting, row-tile}
+use Rattle.blits.proofs.Loops.{across-some, Visiting, visiting-start, visiting-far, visiting-narrow, visiting-low, visiting-part, visiting-more, visiting-turn, visiting-end}
+use Rattle.blits.proofs.RowBoxes.{part-visits}
+use Rattle.blits.proofs.Planes.{plane, plane-fitting, part-tile}
 use Rattle.blits.proofs.tiled.draw_tile_rows.Statement.{statement}
 use Rattle.blits.proofs.tiled.draw_tile_rows.Tie as tie
 
@@ -63,57 +64,79 @@ sub-min-2 c = omega (arith, held (c .before) .stands (omega arith) .short)
 min-requires : tie.Need-min-requires Inv-loop μ-loop
 min-requires c κs = search needs
 
+sub-rows-at-once : tie.Need-sub-rows-at-once Inv-loop μ-loop
+sub-rows-at-once c = omega arith
+
+rows-at-once-requires : tie.Need-rows-at-once-requires Inv-loop μ-loop
+rows-at-once-requires c κs = omega (arith, held (c .before .before) .stands (omega arith) .short)
+
+-- the visits that are drawn at once
+at-once : (c : tie.After-rows-at-once Inv-loop μ-loop) →
+    let at = c .before .before .before in
+    let s = at .before .before .before .before .args in
+    AtOnce (widthOf (s .t .size)) (at .loop .column) (c .before .min .result) (s .n - at .loop .k) (c .rows-at-once .result)
+at-once c = c .rows-at-once .ensures _ (held (c .before .before .before) .stands (omega arith) .short) (c .before .min .ensures)
+
+more : (c : tie.After-rows-at-once Inv-loop μ-loop) →
+    let at = c .before .before .before in
+    let m = c .before .min .result in
+    let rows = c .rows-at-once .result in
+    (0 < m * rows) × (at .loop .k + m * rows ≤ at .before .before .before .before .args .n)
+more c = visiting-more (held (c .before .before .before)) (omega arith) _ _ (c .before .min .ensures) (at-once c)
+
 part-requires : tie.Need-part-requires Inv-loop μ-loop
 part-requires c κs =
-    let f = visiting-row (held (c .before .before)) (omega arith) _ (c .min .ensures) in
-    omega (arith, f .columns, f .size-small)
+    omega (arith, visiting-narrow (held (c .before .before .before)) (omega arith) _ _ (c .before .min .ensures) (at-once c))
 
 part-requires-2 : tie.Need-part-requires-2 Inv-loop μ-loop
 part-requires-2 c κs =
-    let o = c .before in
-    omega (arith, visiting-row (held (o .before .before)) (omega arith) _ (o .min .ensures) .row-small)
+    let q = c .before in
+    omega (arith, visiting-low (held (q .before .before .before)) (omega arith) _ _ (q .before .min .ensures) (at-once q))
 
 tile-box-requires : tie.Need-tile-box-requires Inv-loop μ-loop
 tile-box-requires c κs =
     let rows = c .before in
     let columns = rows .before in
-    let o = columns .before in
-    let at = o .before .before in
+    let q = columns .before in
+    let at = q .before .before .before in
     let start = at .before .before .before .before in
-    row-tile (start .args .t) (start .pre .3) (visiting-row (held at) (omega arith) _ (o .min .ensures)) (start .pre .2) (columns .part .ensures)
-    (rows .part2 .ensures) (narrow start)
+    part-tile (start .args .t) (start .pre .3) (visiting-part (held at) (omega arith) _ _ (q .before .min .ensures) (at-once q))
+    (start .pre .2)
+    (columns .part .ensures) (rows .part2 .ensures) (narrow start)
+
+mul-k : tie.Need-mul-k Inv-loop μ-loop
+mul-k c =
+    let q = c .before .before .before .before .before .before in
+    omega (arith, more q .1, visiting-far (held (q .before .before .before)))
 
 add-k : tie.Need-add-k Inv-loop μ-loop
 add-k c =
-    let o = c .before .before .before .before .before .before in
-    let v = held (o .before .before) in
-    omega (arith, visiting-more v (omega arith) _ (o .min .ensures) .1, visiting-far v)
+    let q = c .before .before .before .before .before .before in
+    omega (arith, more q .1, visiting-far (held (q .before .before .before)))
 
 add-row : tie.Need-add-row Inv-loop μ-loop
 add-row c =
-    let o = c .before .before .before .before .before .before in
-    omega (arith, visiting-row (held (o .before .before)) (omega arith) _ (o .min .ensures) .row-small)
+    let q = c .before .before .before .before .before .before in
+    omega (arith, visiting-low (held (q .before .before .before)) (omega arith) _ _ (q .before .min .ensures) (at-once q))
 
 loop-less : tie.Need-loop-less Inv-loop μ-loop
-loop-less c =
-    let o = c .before .before .before .before .before .before in
-    omega (arith, visiting-more (held (o .before .before)) (omega arith) _ (o .min .ensures) .0)
+loop-less c = omega (arith, more (c .before .before .before .before .before .before) .0)
 
 loop-again : tie.Need-loop-again Inv-loop μ-loop
 loop-again c =
     let done = c .before .before in
     let rows = done .before .before in
     let columns = rows .before in
-    let o = columns .before in
-    let at = o .before .before in
+    let q = columns .before in
+    let at = q .before .before .before in
     let start = at .before .before .before .before in
     let t = start .args .t in
     λ d.
     let v = at .loop .inv d in
-    let f = visiting-row v (omega arith) _ (o .min .ensures) in
-    visiting-turn v (omega arith) _ (o .min .ensures) _ (done .tile-box .kept .1 .1 .1 .1 .1 .1 .0)
-    (row-box-visits (plane t d) f (start .pre .2) (columns .part .ensures) (rows .part2 .ensures) _ _
-    (done .tile-box .ensures (row-tile t d f (start .pre .2) (columns .part .ensures) (rows .part2 .ensures) (narrow start))))
+    let f = visiting-part v (omega arith) _ _ (q .before .min .ensures) (at-once q) in
+    visiting-turn v (omega arith) _ _ (q .before .min .ensures) (at-once q) _ (done .tile-box .kept .1 .1 .1 .1 .1 .1 .0)
+    (part-visits (copyOf t) (plane t d) f (start .pre .2) (columns .part .ensures) (rows .part2 .ensures) _ _
+    (done .tile-box .ensures (part-tile t d f (start .pre .2) (columns .part .ensures) (rows .part2 .ensures) (narrow start))))
 
 same-length : tie.Need-same-length Inv-loop μ-loop
 same-length c = held (c .before) .long
@@ -136,9 +159,12 @@ draw-tile-rows-spec =
     sub-min
     sub-min-2
     min-requires
+    sub-rows-at-once
+    rows-at-once-requires
     part-requires
     part-requires-2
     tile-box-requires
+    mul-k
     add-k
     add-row
     loop-less

@@ -1,5 +1,5 @@
 -- By the tests: where one fails nothing is drawn (`blit-out`); else the tile is put twice, and all visits are drawn as one box
--- (`all-visits`), or some of them row by row.
+-- (`all-visits`), or some of them.
 use borrow.Author.Needs.{needs}
 use mathlib.Core.Path.{_≡_, sym, _∙_}
 use mathlib.Core.Bool.{true}
@@ -10,7 +10,7 @@ use lib.ListN.{length}
 use Rattle.blits.specs.Blits.{blitFits, Fitting}
 use Rattle.blits.specs.Tiled.{copyOf, planeOf, Doubled}
 use Rattle.blits.proofs.Loops.{fitting-of, blit-out, blit-in, no-visits}
-use Rattle.blits.proofs.Planes.{plane-tests, tested, all-tile, all-visits}
+use Rattle.blits.proofs.Planes.{plane-tests, tested, part-tile, all-part, all-visits}
 use Rattle.blits.proofs.tiled.draw_tiled.Statement.{statement}
 use Rattle.blits.proofs.tiled.draw_tiled.Tie as tie
 
@@ -89,8 +89,10 @@ tile-box-requires c κs =
     let shown = counted .before in
     let put = shown .before .before in
     let start = put .before .before .before .before .before .before .before in
-    all-tile (start .args .t) (doubled put) _ _ _ (fitting (put .before .before .before)) (omega arith)
-    (whole .if3 .taken ∙ counted .blit-count .ensures) (small start) (shown .shown-of .ensures) (columns .part .ensures) (rows .part2 .ensures) (narrow start)
+    part-tile (start .args .t) (doubled put)
+    (all-part (start .args .t) (doubled put) _ _ _ (fitting (put .before .before .before)) (omega arith)
+    (whole .if3 .taken ∙ counted .blit-count .ensures) (small start))
+    (shown .shown-of .ensures) (columns .part .ensures) (rows .part2 .ensures) (narrow start)
 
 same-length : tie.Need-same-length
 same-length c = search needs
@@ -111,7 +113,9 @@ returns-3 c =
     let same = shown .shown-of .ensures in
     all-visits t (doubled put) _ _ _ f (omega arith) all (small start) same (columns .part .ensures) (rows .part2 .ensures) _ _
     (done .tile-box .ensures
-    (all-tile t (doubled put) _ _ _ f (omega arith) all (small start) same (columns .part .ensures) (rows .part2 .ensures) (narrow start)))
+    (part-tile t (doubled put) (all-part t (doubled put) _ _ _ f (omega arith) all (small start)) same (columns .part .ensures)
+    (rows .part2 .ensures)
+    (narrow start)))
     ∙ blit-in _ _ _ _ _ (fits (put .before .before .before))
 
 slice-aggregate-draw-tile-rows : tie.Need-slice-aggregate-draw-tile-rows

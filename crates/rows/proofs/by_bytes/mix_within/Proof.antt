@@ -16,20 +16,20 @@ abbrev μ-loop : tie.MeasureT-loop
 loop-holds : tie.Need-loop-holds Inv-loop μ-loop
 loop-holds c = swept-start _ _ _ (sweep-start _ _ _)
 
-add-mix-byte : tie.Need-add-mix-byte Inv-loop μ-loop
-add-mix-byte c = omega arith
+add-mix-next : tie.Need-add-mix-next Inv-loop μ-loop
+add-mix-next c = omega arith
 
-slice-read-mix-byte : tie.Need-slice-read-mix-byte Inv-loop μ-loop
-slice-read-mix-byte c = omega arith
+slice-read-mix-next : tie.Need-slice-read-mix-next Inv-loop μ-loop
+slice-read-mix-next c = omega arith
 
-add-mix-byte-2 : tie.Need-add-mix-byte-2 Inv-loop μ-loop
-add-mix-byte-2 c = omega arith
+add-mix-next-2 : tie.Need-add-mix-next-2 Inv-loop μ-loop
+add-mix-next-2 c = omega arith
 
-slice-read-mix-byte-2 : tie.Need-slice-read-mix-byte-2 Inv-loop μ-loop
-slice-read-mix-byte-2 c = omega arith
+slice-read-mix-next-2 : tie.Need-slice-read-mix-next-2 Inv-loop μ-loop
+slice-read-mix-next-2 c = omega arith
 
-mix-byte-requires : tie.Need-mix-byte-requires Inv-loop μ-loop
-mix-byte-requires c κs = search needs
+mix-next-requires : tie.Need-mix-next-requires Inv-loop μ-loop
+mix-next-requires c κs = search needs
 
 add-buffer : tie.Need-add-buffer Inv-loop μ-loop
 add-buffer c = omega arith
@@ -46,7 +46,7 @@ loop-less c = omega arith
 loop-again : tie.Need-loop-again Inv-loop μ-loop
 loop-again c =
     let x = c .before .before .before .before .loop .inv in
-    swept-set x _ _ (omega arith) (sweep-more _ _ _ _ _ _ (x .done) (c .mix-byte .ensures))
+    swept-set x _ _ (omega arith) (sweep-more _ _ _ _ _ _ (x .done) (c .mix-next .ensures))
 
 same-length : tie.Need-same-length Inv-loop μ-loop
 same-length c = omega arith
@@ -61,11 +61,11 @@ mix-within-spec =
     Inv-loop
     μ-loop
     loop-holds
-    add-mix-byte
-    slice-read-mix-byte
-    add-mix-byte-2
-    slice-read-mix-byte-2
-    mix-byte-requires
+    add-mix-next
+    slice-read-mix-next
+    add-mix-next-2
+    slice-read-mix-next-2
+    mix-next-requires
     add-buffer
     slice-write-buffer
     add-k

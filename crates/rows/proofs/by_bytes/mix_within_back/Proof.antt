@@ -19,20 +19,20 @@ loop-holds c = swept-start _ _ _ (sweep-start _ _ _)
 add-k : tie.Need-add-k Inv-loop μ-loop
 add-k c = omega arith
 
-sub-mix-byte : tie.Need-sub-mix-byte Inv-loop μ-loop
-sub-mix-byte c = omega arith
+sub-mix-next : tie.Need-sub-mix-next Inv-loop μ-loop
+sub-mix-next c = omega arith
 
-slice-read-mix-byte : tie.Need-slice-read-mix-byte Inv-loop μ-loop
-slice-read-mix-byte c = omega arith
+slice-read-mix-next : tie.Need-slice-read-mix-next Inv-loop μ-loop
+slice-read-mix-next c = omega arith
 
-sub-mix-byte-2 : tie.Need-sub-mix-byte-2 Inv-loop μ-loop
-sub-mix-byte-2 c = omega arith
+sub-mix-next-2 : tie.Need-sub-mix-next-2 Inv-loop μ-loop
+sub-mix-next-2 c = omega arith
 
-slice-read-mix-byte-2 : tie.Need-slice-read-mix-byte-2 Inv-loop μ-loop
-slice-read-mix-byte-2 c = omega arith
+slice-read-mix-next-2 : tie.Need-slice-read-mix-next-2 Inv-loop μ-loop
+slice-read-mix-next-2 c = omega arith
 
-mix-byte-requires : tie.Need-mix-byte-requires Inv-loop μ-loop
-mix-byte-requires c κs = search needs
+mix-next-requires : tie.Need-mix-next-requires Inv-loop μ-loop
+mix-next-requires c κs = search needs
 
 sub-buffer : tie.Need-sub-buffer Inv-loop μ-loop
 sub-buffer c = omega arith
@@ -46,7 +46,7 @@ loop-less c = omega arith
 loop-again : tie.Need-loop-again Inv-loop μ-loop
 loop-again c =
     let x = c .before .before .before .before .loop .inv in
-    swept-set x _ _ (omega arith) (sweep-more _ _ _ _ _ _ (x .done) (c .mix-byte .ensures))
+    swept-set x _ _ (omega arith) (sweep-more _ _ _ _ _ _ (x .done) (c .mix-next .ensures))
 
 same-length : tie.Need-same-length Inv-loop μ-loop
 same-length c = omega arith
@@ -62,11 +62,11 @@ mix-within-back-spec =
     μ-loop
     loop-holds
     add-k
-    sub-mix-byte
-    slice-read-mix-byte
-    sub-mix-byte-2
-    slice-read-mix-byte-2
-    mix-byte-requires
+    sub-mix-next
+    slice-read-mix-next
+    sub-mix-next-2
+    slice-read-mix-next-2
+    mix-next-requires
     sub-buffer
     slice-write-buffer
     loop-less

@@ -18,7 +18,7 @@ returns c =
     let d = c .before .before in
     let o = d .before .before in
     let s = o .before .before .before in
-    fill-right _ _ _ _ (s .pre .0) (s .pre .1) (s .pre .2) (o .if1 .taken) _ _ _ refl (d .fill-row .ensures)
+    fill-right _ _ _ _ (s .pre .0) (s .pre .1 .level) (s .pre .1 .next) (o .if1 .taken) _ _ _ refl (d .fill-row .ensures)
 
 sub-fill-row : tie.Need-sub-fill-row
 sub-fill-row c = search needs
@@ -27,7 +27,7 @@ sub-fill-row-2 : tie.Need-sub-fill-row-2
 sub-fill-row-2 c =
     let o = c .before .before in
     let s = o .before .before .before in
-    left-room _ _ _ _ (s .pre .0) (s .pre .1) (s .pre .2) (o .if1 .left)
+    left-room _ _ _ _ (s .pre .0) (s .pre .1 .level) (s .pre .1 .next) (o .if1 .left)
 
 fill-row-requires-2 : tie.Need-fill-row-requires-2
 fill-row-requires-2 c κs = search needs
@@ -40,7 +40,7 @@ returns-2 c =
     let d = c .before .before in
     let o = d .before .before .before in
     let s = o .before .before .before in
-    fill-left _ _ _ _ (s .pre .0) (s .pre .1) (s .pre .2) (o .if1 .left) _ _ _ refl (d .fill-row2 .ensures)
+    fill-left _ _ _ _ (s .pre .0) (s .pre .1 .level) (s .pre .1 .next) (o .if1 .left) _ _ _ refl (d .fill-row2 .ensures)
 
 pub fill-places-spec : {M : Type 1} → statement M
 fill-places-spec =
