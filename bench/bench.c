@@ -10,6 +10,7 @@
 #include <time.h>
 
 #include "baseline.h"
+#include "cut.h"
 #include "pramolyt.h"
 
 enum { CMD, FORE, BACK, MASK, KEY, LPAT, PCTRL, CLPTL, CLPBR, XY0, XY2, XY3, XY1 };
@@ -1090,17 +1091,43 @@ static double cut_once(uint64_t budget, int *calls)
     return now() - began;
 }
 
-static void print_cut(const struct work *w)
+/* The same by the plain C run, on the baseline's pictures, with the board's record. */
+static double cut_once_in_c(uint64_t budget)
 {
-    double whole = 1e9, cut = 1e9;
-    int calls = 0, ignored;
+    const size_t pixels = board_pixels();
+    uint64_t steps;
+    post();
     const double began = now();
+    while (board.active_taken)
+        if (cut_run(&board, &steps, budget, list, sizeof list, of_baseline.display, pixels, of_baseline.virt, pixels) != PRAMOLYT_DONE)
+            stop("the plain C run was refused");
+    return now() - began;
+}
+
+static bool print_cut(const struct work *w)
+{
+    double whole = 1e9, cut = 1e9, plain = 1e9;
+    int calls = 0, ignored;
+    bool same = true;
+    const double began = now();
+    if (w->hiding != SHOWN) {
+        cut_once(BUDGET, &calls);
+        cut_once_in_c(BUDGET);
+        same = same_bytes(w->name, "display", of_library.display, of_baseline.display)
+             & same_bytes(w->name, "virtual", of_library.virt, of_baseline.virt);
+    }
     while (now() - began < PASSES * KIND_SECONDS) {
         keep_best(&whole, cut_once(UINT64_MAX, &ignored));
         keep_best(&cut, cut_once(BUDGET, &calls));
+        if (w->hiding != SHOWN)
+            keep_best(&plain, cut_once_in_c(BUDGET));
     }
-    printf("%-38s %-11s %8.0f %8.0f %6.2f %8d %8.0f\n", w->name, w->size, units_of(w) / 1e6 / whole,
-           units_of(w) / 1e6 / cut, whole / cut, calls, (cut - whole) / calls * 1e9);
+    printf("%-38s %-11s %8.0f %8.0f %6.2f %8d %8.0f", w->name, w->size, units_of(w) / 1e6 / whole, units_of(w) / 1e6 / cut,
+           whole / cut, calls, (cut - whole) / calls * 1e9);
+    print_number(8, 0, units_of(w) / 1e6 / plain, w->hiding != SHOWN);
+    print_number(6, 2, plain / cut, w->hiding != SHOWN);
+    printf("\n");
+    return same;
 }
 
 static bool is_cut(const struct work *w)
@@ -1126,11 +1153,11 @@ static int cut_all(const char *word)
         if (!is_cut(&works[i]) || (word && !strstr("cut", word)))
             continue;
         if (!headed)
-            printf("\n%-38s %-11s %8s %8s %6s %8s %8s\n", "cut into budgets of 1000 steps", "size", "whole", "cut",
-                   "ratio", "calls", "ns/call");
+            printf("\n%-38s %-11s %8s %8s %6s %8s %8s %8s %6s\n", "cut into budgets of 1000 steps", "size", "whole", "cut",
+                   "ratio", "calls", "ns/call", "plain C", "ratio");
         headed = true;
         differences += !compare_work(&works[i], BUDGET);
-        print_cut(&works[i]);
+        differences += !print_cut(&works[i]);
     }
     return differences;
 }

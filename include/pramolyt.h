@@ -25,8 +25,8 @@
 
 #define PRAMOLYT_VERSION_MAJOR 0
 #define PRAMOLYT_VERSION_MINOR 9
-#define PRAMOLYT_VERSION_PATCH 0
-#define PRAMOLYT_VERSION "0.9.0"
+#define PRAMOLYT_VERSION_PATCH 1
+#define PRAMOLYT_VERSION "0.9.1"
 
 /* The edition of the record and of the calls' arguments. The archive's symbols carry it, so that a program compiled with a
  * header of another edition does not link. In C and C++ one writes the names without it. */

@@ -75,7 +75,7 @@ settle-good b s =
     (λ h. subst Good (second-of t (followed b) b h) (stays b s h))
 
 -- a step of the active list: to a cursor past its start, and a well formed engine and fill
-moved-good : (m : Machine) (c : Cursor) (s : Scene) → Good (m .board) → m .board .active .taken ≡ true → c .span ≡ m .board .active .cursor .span
+pub moved-good : (m : Machine) (c : Cursor) (s : Scene) → Good (m .board) → m .board .active .taken ≡ true → c .span ≡ m .board .active .cursor .span
     → Visiting c → engineOk (m .board .sizes .extent) (s .engine) ≡ true → fillOk (m .board .sizes .extent) (s .engine) (s .fill) ≡ true
     → Good (movedTo m c s .board)
 moved-good m c s g t same v ok held =

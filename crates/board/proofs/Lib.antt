@@ -2,10 +2,12 @@ pub mod Forms
 pub mod Keeps
 pub mod Typed
 pub mod Goes
+pub mod Tiled
 pub mod Counts
 pub mod Wholes
 pub mod Refused
 pub mod Replies
+pub mod Parts
 pub mod Feeds
 pub mod Cuts
 pub mod Stopped

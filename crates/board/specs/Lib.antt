@@ -1,6 +1,7 @@
 pub mod Record
 pub mod Steps
 pub mod Runs
+pub mod Bare
 pub mod Left
 pub mod Stopped
 pub mod Calls

@@ -1,8 +1,7 @@
 -- Runs (01, Steps), and what the host hears of one (01, What the host hears).
-use mathlib.Core.Path.{_≡_}
-use mathlib.Core.Bool.{Bool, true, false, cond}
+use mathlib.Core.Bool.{cond}
 use mathlib.Core.List.{List}
-use Prim.Native.Nat.{ℕ, zero, suc, _+_, _≤_, _<_}
+use Prim.Native.Nat.{ℕ, zero, suc, _+_}
 use lib.ListN.{length}
 use Rattle.answers.specs.Reports.{Report, report, reportOf}
 use Rattle.lists.specs.declared.cursors.Next.{Next}
@@ -45,13 +44,3 @@ runCall budget l m =
     cond (wellFormed (m .board))
     (cond (lentOk (m .board .sizes) (length l) (length (m .display)) (length (m .virt))) (runOf budget l m) (ended 2 m))
     (ended 1 m)
-
--- Several steps at once: k of them, within the budget, lead from m to n, and any longer run goes on from n; `broken` where the next
--- entry is illegal there and the budget reaches it.
-pub record Leaped (l : List ℕ) (m : Machine) (budget k : ℕ) (broken : Bool) (n : Machine) : Type 0 where
-  pub few : k ≤ budget
-  pub well : wellFormed (n .board) ≡ true
-  pub run : (r : ℕ) → runOf (r + k) l m ≡ added k (runOf r l n)
-  pub some : broken ≡ false → 1 ≤ k
-  pub early : broken ≡ true → k < budget
-  pub stops : broken ≡ true → nextOn l (n .board) ≡ Broken

@@ -1,65 +1,73 @@
-// A run of steps.
+// A run of steps: a fill with a tile that is held, the steps with none held, and a fill with a tile that the budget cuts.
 ghost use mathlib.Core.Path.{_≡_};
-ghost use mathlib.Core.Bool.{true};
-ghost use Prim.Native.Nat.{_≤_};
-ghost use Rattle.board.specs.Record.{wellFormed};
 ghost use Rattle.board.specs.Steps.{machine};
-ghost use Rattle.board.specs.Runs.{outcome, runOf, runCall, Leaped};
+ghost use Rattle.board.specs.Runs.{outcome, runCall};
+ghost use Rattle.board.specs.Bare.{bareOf, HatchRan};
 use crate::answer::Answer;
+use crate::bare::Bare;
 use crate::record::Board;
 use answers::Status;
-use leaps::run_list;
 
-// Steps of the active list: the record after them, and whether an illegal entry ended them within the budget.
-pub struct Leap {
+// What the steps of a held fill answer, and whether the run ends with them.
+pub struct HatchAnswer {
+    pub status: Status,
     pub board: Board,
-    pub steps: u64,
-    pub broken: bool,
+    pub ended: bool,
 }
 
 impl Board {
-    // As many steps of the active list as the budget allows.
-    fn leap(self, list: &[u8], budget: u64, display: &mut [u8], virt: &mut [u8]) -> Leap
-        requires { ⌜ (wellFormed self ≡ true) × (self .active .taken ≡ true) × (1 ≤ budget) ⌝ }
-        ensures { λ r. ⌜ Leaped (now (list .entry)) (machine self (now (display .entry)) (now (virt .entry))) budget (r .steps) (r .broken) (machine (r .board) (now (display .exit)) (now (virt .exit))) ⌝ }
+    // The steps of a fill with a tile that is held, as many as the budget allows; none where none is held.
+    pub fn hatch(self, budget: u64, list: &[u8], display: &mut [u8], virt: &mut [u8]) -> HatchAnswer
+        ensures { λ r. ⌜ HatchRan budget (now (list .entry)) (machine self (now (display .entry)) (now (virt .entry))) r (now (display .exit)) (now (virt .exit)) ⌝ }
     {
         let z = self.sizes;
         let a = self.active;
         let c = a.cursor;
         let e = self.engine;
         let f = self.fill;
-        let r = run_list(e, f, z.extent, c, budget, list, display, virt);
-        let cursor = r.cursor;
-        let engine = r.engine;
-        let fill = r.fill;
-        Leap {
-            board: self.moved(cursor, engine, fill),
-            steps: r.steps,
-            broken: r.broken,
+        if !self.well_formed() {
+            return HatchAnswer {
+                status: Status::Malformed,
+                board: self,
+                ended: true,
+            };
+        }
+        if !z.lent_ok(list.len(), display.len(), virt.len()) {
+            return HatchAnswer {
+                status: Status::WrongSize,
+                board: self,
+                ended: true,
+            };
+        }
+        if !e.hatches() {
+            return HatchAnswer {
+                status: Status::Done(0),
+                board: self,
+                ended: false,
+            };
+        }
+        let b = leaps::hatch(e, z.extent, f, budget, display, virt);
+        let g = b.engine;
+        HatchAnswer {
+            status: Status::Done(b.steps),
+            board: self.moved(c, g, g.fill_after(f)),
+            ended: g.hatches(),
         }
     }
 
-    // As many steps as the budget allows, list by list.
-    fn run_steps(self, budget: u64, list: &[u8], display: &mut [u8], virt: &mut [u8]) -> Answer
-        requires { ⌜ wellFormed self ≡ true ⌝ }
-        ensures { λ r. ⌜ outcome r (now (display .exit)) (now (virt .exit)) ≡ runOf budget (now (list .entry)) (machine self (now (display .entry)) (now (virt .entry))) ⌝ }
+    // The record without its tile.
+    fn bare(self) -> Bare
+        ensures { λ r. ⌜ r ≡ bareOf self ⌝ }
     {
-        let mut b = self;
-        let mut k: u64 = 0;
-        while (k < budget) & b.active.taken {
-            let r = b.leap(list, budget - k, display, virt);
-            b = r.board;
-            k = k + r.steps;
-            if r.broken {
-                return Answer {
-                    status: Status::IllegalFetch(k),
-                    board: b,
-                };
-            }
-        }
-        Answer {
-            status: Status::Done(k),
-            board: b,
+        let z = self.sizes;
+        let a = self.active;
+        let p = self.pending;
+        let e = self.engine;
+        Bare {
+            sizes: z,
+            active: a,
+            pending: p,
+            engine: e,
         }
     }
 
@@ -67,19 +75,34 @@ impl Board {
     pub fn run(self, budget: u64, list: &[u8], display: &mut [u8], virt: &mut [u8]) -> Answer
         ensures { λ r. ⌜ outcome r (now (display .exit)) (now (virt .exit)) ≡ runCall budget (now (list .entry)) (machine self (now (display .entry)) (now (virt .entry))) ⌝ }
     {
-        let z = self.sizes;
-        if !self.well_formed() {
+        let h = self.hatch(budget, list, display, virt);
+        let first = h.status;
+        let held = h.board;
+        if h.ended {
             return Answer {
-                status: Status::Malformed,
-                board: self,
+                status: first,
+                board: held,
             };
         }
-        if !z.lent_ok(list.len(), display.len(), virt.len()) {
+        let done = first.steps();
+        let bare = held.bare();
+        let r = bare.run_steps(done, budget, list, display, virt);
+        let second = r.status;
+        let after = r.bare;
+        let b = after.held(display, virt);
+        if !r.cut {
             return Answer {
-                status: Status::WrongSize,
-                board: self,
+                status: second,
+                board: b,
             };
         }
-        self.run_steps(budget, list, display, virt)
+        let k = second.steps();
+        let last = b.hatch(budget - k, list, display, virt);
+        let third = last.status;
+        let end = last.board;
+        Answer {
+            status: Status::Done(k + third.steps()),
+            board: end,
+        }
     }
 }

@@ -1,16 +1,12 @@
--- How the code takes an entry: a word is put into its register, and a trigger begins the command in CMD. What it leaves is
+-- How the code takes an entry: a word is put into its register, and a trigger begins the command in CMD. What that comes to is
 -- `enteredOf` of Steps; nothing here is needed to read that.
-use mathlib.Core.Path.{_≡_}
-use mathlib.Core.Bool.{true, false, cond, _&&_}
+use mathlib.Core.Bool.{false}
 use Prim.Native.Nat.{ℕ}
-use lib.Dec.{eqb, ltb}
-use Rattle.geometry.specs.declared.Extent.{Extent}
 use Rattle.entries.specs.Fields.{draws}
 use Rattle.entries.specs.declared.decoding.Entry.{Entry}
-use Rattle.commands.specs.Visits.{commandIn, countOf}
-use Rattle.commands.specs.Steps.{patternSet, withWord, enteredOf}
+use Rattle.commands.specs.Visits.{commandIn}
+use Rattle.commands.specs.Steps.{patternSet, withWord}
 use Rattle.commands.specs.declared.Engine.{Engine}
-use Rattle.commands.specs.declared.steps.Triggered.{Triggered}
 
 -- The entry that writes a word to a register.
 abbrev pub writes : ℕ → ℕ → Entry
@@ -22,21 +18,11 @@ putOf e number word =
     let w = withWord e (writes number word) in
     record { «under_way» = false; visited = 0; registers = w .registers; pattern = patternSet number w; last = e .last }
 
--- The command in CMD begun, which visits so many pixels.
-abbrev pub begunOf : Engine → ℕ → Engine
-begunOf e count =
-    record {
-      «under_way» = ltb 0 count;
-      visited = 0;
-      registers = e .registers;
-      pattern = e .pattern;
-      last = cond (draws (commandIn e) && eqb count 0) (e .registers .xy1) (e .last);
-    }
-
--- What a trigger leaves, and the count of a command that it leaves under way.
-pub record TriggeredBy (extent : Extent) (e : Engine) (word : ℕ) (r : Triggered) : Type 0 where
-  pub entered : r .engine ≡ enteredOf extent e (writes 12 word)
-  pub counted : r .engine .«under_way» ≡ true → r .count ≡ countOf extent (r .engine)
+-- XY1's word put into its register, and a command in CMD that draws under way, whatever it visits.
+abbrev pub beginOf : Engine → ℕ → Engine
+beginOf e word =
+    let w = putOf e 12 word in
+    record { «under_way» = draws (commandIn w); visited = 0; registers = w .registers; pattern = w .pattern; last = w .last }
 
 -- An engine with the numbers that decide how many pixels its command visits.
 abbrev pub numbered : Engine → ℕ → ℕ → ℕ → ℕ → ℕ → ℕ → ℕ → ℕ → Engine

@@ -11,7 +11,6 @@ use geometry::Extent;
 use registers::Pattern;
 use registers::Registers;
 use registers::state_ok;
-pub use steps::Triggered;
 
 // What a step uses besides lists and buffers. `last` is the last point, as XY1's word.
 pub struct Engine {

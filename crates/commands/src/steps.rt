@@ -2,11 +2,9 @@
 ghost use mathlib.Core.Path.{_≡_};
 ghost use Rattle.raster.specs.Raster.{newByte};
 ghost use Rattle.commands.specs.Hatching.{fillAfter};
-ghost use Rattle.commands.specs.Steps.{scene, inked, patternAfter, advancedOf, visitOf, patternSet, enteredOf};
-ghost use Rattle.commands.specs.Entering.{putOf, begunOf, TriggeredBy};
+ghost use Rattle.commands.specs.Steps.{scene, inked, patternAfter, advancedOf, visitOf, patternSet};
+ghost use Rattle.commands.specs.Entering.{putOf, beginOf};
 use crate::Engine;
-use crate::visits::count_by;
-use entries::Entry;
 use entries::TRIGGER;
 use entries::command_of;
 use entries::is_trigger;
@@ -23,12 +21,6 @@ fn mixed(code: u8, value: u32, old: u8, mask: u32) -> u8
     ensures { λ r. ⌜ r ≡ newByte code value old mask ⌝ }
 {
     raster::new_byte(code, (value % 256) as u8, old, (mask % 256) as u8)
-}
-
-// An engine after a trigger, and the pixels that its command visits.
-pub struct Triggered {
-    pub engine: Engine,
-    pub count: usize,
 }
 
 impl Engine {
@@ -121,7 +113,7 @@ impl Engine {
     }
 
     // A word written to a register, with what that does but for the command that it may trigger.
-    fn put(self, number: u32, word: u32) -> Engine
+    pub fn put(self, number: u32, word: u32) -> Engine
         ensures { λ r. ⌜ r ≡ putOf self number word ⌝ }
     {
         let g = self.registers;
@@ -143,55 +135,20 @@ impl Engine {
         }
     }
 
-    // With the command in CMD begun, which visits `count` pixels; with none it has ended.
-    fn begun(self, count: usize) -> Engine
-        ensures { λ r. ⌜ r ≡ begunOf self count ⌝ }
-    {
-        let g = self.registers;
-        let p = self.pattern;
-        let c = command_of(g.cmd);
-        let ended = c.draws() & (count == 0);
-        Engine {
-            under_way: 0 < count,
-            visited: 0,
-            registers: g,
-            pattern: p,
-            last: if ended { g.xy1 } else { self.last },
-        }
-    }
-
-    // A word written to the register that triggers; and how many pixels the command then under way visits.
-    pub fn trigger(self, extent: Extent, word: u32) -> Triggered
-        ensures { λ r. ⌜ TriggeredBy extent self word r ⌝ }
+    // A word written to the register that triggers; a command in CMD that draws is then under way, whatever it visits.
+    pub fn begin(self, word: u32) -> Engine
+        ensures { λ r. ⌜ r ≡ beginOf self word ⌝ }
     {
         let e = self.put(TRIGGER, word);
         let g = e.registers;
-        let count = count_by(
-            extent.width,
-            extent.height,
-            g.cmd,
-            e.last,
-            g.xy0,
-            g.xy1,
-            g.xy2,
-            g.xy3,
-            g.clptl,
-            g.clpbr,
-        );
-        Triggered {
-            engine: e.begun(count),
-            count,
+        let p = e.pattern;
+        let c = command_of(g.cmd);
+        Engine {
+            under_way: c.draws(),
+            visited: 0,
+            registers: g,
+            pattern: p,
+            last: e.last,
         }
-    }
-
-    // One entry taken, which changes no byte of the buffers.
-    pub fn take(self, extent: Extent, entry: Entry) -> Engine
-        ensures { λ r. ⌜ r ≡ enteredOf extent self entry ⌝ }
-    {
-        if is_trigger(entry.register) {
-            let t = self.trigger(extent, entry.word);
-            return t.engine;
-        }
-        self.put(entry.register, entry.word)
     }
 }

@@ -24,3 +24,6 @@ entryOf l k =
 -- Past the end of list memory there is none.
 unfoldable pub decodedOf : List ℕ → ℕ → Decoded
 decodedOf l k = cond (ltb k (length l / 5)) (Whole (entryOf l k)) Nothing
+
+unfoldable pub wordAt : List ℕ → ℕ → ℕ
+wordAt l k = cond (ltb k (length l / 5)) (entryOf l k .word) 0

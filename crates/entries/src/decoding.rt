@@ -1,6 +1,6 @@
 // Entries out of list memory.
 ghost use mathlib.Core.Path.{_≡_};
-ghost use Rattle.entries.specs.Layout.{joined, decodedOf};
+ghost use Rattle.entries.specs.Layout.{joined, decodedOf, wordAt};
 
 // Register number, the three bits below it, and data.
 pub struct Entry {
@@ -43,4 +43,15 @@ pub fn entry_at(list: &[u8], place: usize) -> Decoded
         spare: first % 8,
         word,
     })
+}
+
+// The data of the entry at a place, 0 where list memory has no such place.
+pub fn word_at(list: &[u8], place: usize) -> u32
+    ensures { λ r. ⌜ r ≡ wordAt (now (list .entry)) place ⌝ }
+{
+    if list.len() / 5 <= place {
+        return 0;
+    }
+    let at = 5 * place;
+    join(list[at + 1], list[at + 2], list[at + 3], list[at + 4])
 }

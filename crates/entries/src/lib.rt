@@ -7,6 +7,7 @@ pub use decoding::Decoded;
 pub use decoding::Entry;
 pub use decoding::entry_at;
 pub use decoding::join;
+pub use decoding::word_at;
 pub use fields::Command;
 pub use fields::PatternControl;
 pub use fields::TRIGGER;

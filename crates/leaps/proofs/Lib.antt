@@ -3,4 +3,5 @@ pub mod Blits
 pub mod Rows
 pub mod Strokes
 pub mod Running
-pub mod Hatched
+pub mod Hatching
+pub mod Entries

@@ -5,10 +5,10 @@ use mathlib.Core.Bool.{Bool, true, false, not, cond, _&&_, _||_, false≢true}
 use mathlib.Core.List.{List}
 use Prim.Native.Nat.{ℕ, _+_, _-_, _*_, _≤_, _<_, min, max}
 use native.Mathlib.Omega.{arith}
-use borrow.Author.Tests.{eqb-true, eq-eqb, ltb-true, ltb-false, le-leb, not-true}
-use lib.Dec.{eqb, ltb}
+use borrow.Author.Tests.{eqb-true, eqb-false, eq-eqb, ltb-true, ltb-false, leb-false, le-leb, not-true}
+use lib.Dec.{eqb, leb, ltb}
 use lib.ListN.{length}
-use Rattle.lemmas.proofs.Booleans.{by-cases, both, and-left, and-right, first-of, second-of, of-either}
+use Rattle.lemmas.proofs.Booleans.{by-cases, both, and-left, and-right, or-none-left, or-none-right, first-of, second-of, of-either}
 use Rattle.lemmas.specs.Turns.{inTurn}
 use Rattle.lemmas.proofs.Turns.{turn-agree}
 use Rattle.geometry.specs.Coordinates.{origin, pointOf}
@@ -31,7 +31,7 @@ use Rattle.registers.specs.declared.file.Registers.{Registers}
 use Rattle.strokes.specs.Strokes.{Dashed, dashed}
 use Rattle.commands.specs.Visits.{commandIn, windowIn, shows, countOf, targetOf, sourceAt as sourceIn}
 use Rattle.entries.specs.Fields.{isBlit, isLine}
-use Rattle.tiles.specs.Tiles.{noFill}
+use Rattle.tiles.specs.Tiles.{noFill, fillOf}
 use Rattle.tiles.specs.declared.Fill.{Fill}
 use Rattle.tiles.specs.declared.Tile.{Tile}
 use Rattle.rows.specs.Rows.{unkeyed}
@@ -43,8 +43,9 @@ use Rattle.commands.specs.Steps.{scene, inked, patternAfter, visitsOf}
 use Rattle.commands.specs.declared.Engine.{Engine}
 use Rattle.commands.proofs.Bounds.{count-same}
 use Rattle.commands.proofs.Tests.{flag-is, count-blit}
-use Rattle.leaps.specs.Leaps.{penIn, mixIn, stippleIn, paintOf, blitIn, tilingIn, indexOf, stretchOf, movedTo, movedBy, canLeap, goesByRows, goesByTile}
-use Rattle.leaps.proofs.Visiting.{sceneOn, unfilled, Marked, visits-are, Leaps, leaps-of}
+use Rattle.leaps.specs.declared.visits.Visits.{Visits}
+use Rattle.leaps.specs.Leaps.{penIn, mixIn, stippleIn, paintOf, blitIn, tilingIn, indexOf, stretchOf, movedTo, movedBy, canLeap, goesByTile, afterVisits, restIn, withinIn, SomeDone, TiledDone, BlitDone}
+use Rattle.leaps.proofs.Visiting.{sceneOn, unfilled, Marked, visits-are, Leaps, leaps-of, Fit, leaps-some, after-moved, AreVisits, none-done, some-done}
 use Rattle.leaps.proofs.Blits.{marks-on, tile-marks, no-tile-marks}
 use Rattle.geometry.specs.declared.Extent.{Extent}
 
@@ -82,22 +83,6 @@ pub record Goes (extent : Extent) (e : Engine) (n display virt : ℕ) : Type 0 w
   pub blit : isBlit (commandIn e) ≡ true
   pub plain : commandIn e .apat ≡ false
   pub key-small : e .registers .key < 256
-
-pub goes-of : (extent : Extent) (e : Engine) (n display virt : ℕ) → goesByRows extent e n display virt ≡ true → Goes extent e n display virt
-unfolding goesByRows
-goes-of extent e n display virt h =
-    let c1 = canLeap extent e n display virt in
-    let c2 = isBlit (commandIn e) in
-    let c3 = not (commandIn e .apat) in
-    let c4 = ltb (e .registers .key) 256 in
-    let h3 = and-left (c1 && c2 && c3) c4 h in
-    let h2 = and-left (c1 && c2) c3 h3 in
-    record {
-      leaps = leaps-of extent e n display virt (and-left c1 c2 h2);
-      blit = and-right c1 c2 h2;
-      plain = not-true (commandIn e .apat) (and-right (c1 && c2) c3 h3);
-      key-small = ltb-true (e .registers .key) 256 (and-right (c1 && c2 && c3) c4 h);
-    }
 
 -- a blit in CMD, whatever it is painted from
 abbrev pub blitWith : Extent → Engine → Paint → ℕ → Blit
@@ -268,7 +253,7 @@ module _ (extent : Extent) (e : Engine) (n display virt : ℕ) (leaps : Leaps ex
 
 -- with no tile
 module _ (extent : Extent) (e : Engine) (n display virt : ℕ) (g : Goes extent e n display virt) (f : Engine) (moved : f ≡ movedBy extent e n (e .pattern)) where
-  pub rows-are : (to : Bool) (own other : List ℕ) → length own ≡ extent .width * extent .height → length other ≡ extent .width * extent .height
+  rows-are : (to : Bool) (own other : List ℕ) → length own ≡ extent .width * extent .height → length other ≡ extent .width * extent .height
       → commandIn e .«to_virtual» ≡ to → (m : List ℕ) →
       let r = stretchOf (windowIn extent (e .registers)) e (countOf extent e) n in
       m ≡ blitted (blitIn extent e) (r .from) (r .past - r .from) other own
@@ -370,14 +355,157 @@ tiled-whole extent e n t k tile p q u own =
     ap₂ (λ (t : Tiling) k. blitted (copyOf t) 0 k (planeOf (t .width) (t .height) tile) own) p all
     ∙ ap (λ (r : Range). blitted b (r .from) (r .past - r .from) plane own) (first-of (eqb n (countOf extent e)) whole part (eq-eqb n (countOf extent e) q))
 
--- what the row loops were given
-pub drawn-as : (extent : Extent) (e : Engine) (n : ℕ) (b : Blit) (c : ℕ) (s : Range) (k : ℕ) → b ≡ blitIn extent e → c ≡ countOf extent e
-    → s ≡ stretchOf (b .window) e c n → k ≡ s .past - s .from → (other own : List ℕ) →
-    let r = stretchOf (windowIn extent (e .registers)) e (countOf extent e) n in
-    blitted b (s .from) k other own ≡ blitted (blitIn extent e) (r .from) (r .past - r .from) other own
-drawn-as extent e n b c s k p q t u other own =
-    let same = t ∙ ap₂ (λ (b : Blit) c. stretchOf (b .window) e c n) p q in
-    ap (λ k. blitted b (s .from) k other own) u ∙ ap₂ (λ (b : Blit) (s : Range). blitted b (s .from) (s .past - s .from) other own) p same
+-- ---- a blit visited at once, by the number that was counted
+
+module _ (budget : ℕ) (extent : Extent) (e : Engine) (own other : List ℕ) (blit : isBlit (commandIn e) ≡ true) (w : Window) (count : ℕ)
+    (shown : w ≡ windowIn extent (e .registers))
+    (counted : count ≡ visibleCount (pointOf (e .registers .xy1)) (e .registers .xy2) (e .registers .xy3) w) where
+  all-shown : count ≡ countOf extent e
+  all-shown =
+      counted ∙ ap (visibleCount (pointOf (e .registers .xy1)) (e .registers .xy2) (e .registers .xy3)) shown ∙ count-blit extent e blit
+
+  pub blit-none : BlitDone budget extent e own other (record { pattern = e .pattern; steps = 0; finished = eqb count 0 }) own
+  blit-none =
+      record { within = omega arith; none = λ _. (none-done extent e count all-shown, refl); some = λ h. absurd (omega (arith, h)) }
+
+  pub tiled-none : TiledDone budget extent e own other (record { pattern = e .pattern; steps = 0; finished = eqb count 0 }) own
+  tiled-none =
+      record { within = omega arith; none = λ _. (none-done extent e count all-shown, refl); some = λ h. absurd (omega (arith, h)) }
+
+  -- all of a fill with a tile
+  module _ (c : Command) (is : c ≡ commandIn e) (tests : (eqb count 0 || ltb budget count || ltb 0 (e .visited) || c .solid) ≡ false) (within : Bool)
+      (reads : within ≡ (c .«to_virtual» && c .«from_virtual» || not (c .«to_virtual») && not (c .«from_virtual»))) (fill : Fill)
+      (taken : fill ≡ fillOf extent (e .registers .xy0) (cond within own other)) where
+    begins : (eqb count 0 || ltb budget count || ltb 0 (e .visited)) ≡ false
+    begins = or-none-left (eqb count 0 || ltb budget count || ltb 0 (e .visited)) (c .solid) tests
+
+    reaches-it : (eqb count 0 || ltb budget count) ≡ false
+    reaches-it = or-none-left (eqb count 0 || ltb budget count) (ltb 0 (e .visited)) begins
+
+    whole-done : SomeDone extent e (record { pattern = e .pattern; steps = count; finished = true })
+    whole-done =
+        let first = ltb-false 0 (e .visited) (or-none-right (eqb count 0 || ltb budget count) (ltb 0 (e .visited)) begins) in
+        let all : count ≡ restIn extent e = omega (arith, first, all-shown) in
+        record { few = omega (arith, all); finished = sym (eq-eqb count (restIn extent e) all) }
+
+    from-tile : (m : List ℕ) →
+        let s = stretchOf (windowIn extent (e .registers)) e (countOf extent e) count in
+        m ≡ cond (fill .whole) (blitted (copyOf (tilingIn extent e)) (s .from) (s .past - s .from) (planeOf (extent .width) (extent .height) (fill .tile)) own) own
+        → TiledDone budget extent e own other (record { pattern = e .pattern; steps = count; finished = true }) m
+    from-tile m h =
+        let s = stretchOf (windowIn extent (e .registers)) e (countOf extent e) count in
+        let some = eqb-false count 0 (or-none-left (eqb count 0) (ltb budget count) reaches-it) in
+        let same : fill ≡ fillOf extent (e .registers .xy0) (cond (withinIn e) own other) =
+        taken ∙ ap (λ b. fillOf extent (e .registers .xy0) (cond b own other))
+        (reads ∙ ap (λ (c : Command). c .«to_virtual» && c .«from_virtual» || not (c .«to_virtual») && not (c .«from_virtual»)) is) in
+        record {
+          within = omega (arith, ltb-false budget count (or-none-right (eqb count 0) (ltb budget count) reaches-it));
+          none = λ z. absurd (some z);
+          some =
+              λ _. (
+                whole-done,
+                all-shown,
+                flag-is e c is (λ c. c .solid) false (or-none-right (eqb count 0 || ltb budget count || ltb 0 (e .visited)) (c .solid) tests),
+                refl,
+                h
+                    ∙ ap (λ (f : Fill). cond (f .whole)
+                    (blitted (copyOf (tilingIn extent e)) (s .from) (s .past - s .from) (planeOf (extent .width) (extent .height) (f .tile)) own) own) same,
+              );
+        }
+
+    pub tiled-drawn : fill .whole ≡ true → (t : Tiling) → t ≡ tilingIn extent e → (k : ℕ) → k ≡ blitCount (e .registers .xy2) → (m : List ℕ)
+        → m ≡ blitted (copyOf t) 0 k (planeOf (t .width) (t .height) (fill .tile)) own
+        → TiledDone budget extent e own other (record { pattern = e .pattern; steps = count; finished = true }) m
+    tiled-drawn whole t made k all m h =
+        from-tile m (h ∙ tiled-whole extent e count t k (fill .tile) made all-shown all own ∙ first-of (fill .whole) _ own whole)
+
+    pub tiled-missing : fill .whole ≡ false
+        → TiledDone budget extent e own other (record { pattern = e .pattern; steps = count; finished = true }) own
+    tiled-missing missing = from-tile own (second-of (fill .whole) _ own missing)
+
+  module _ (left n : ℕ) (rest : left ≡ count - e .visited) (least : n ≡ min budget left) (c : Command) (is : c ≡ commandIn e)
+      (tests : (eqb n 0 || c .apat || leb 256 (e .registers .key)) ≡ false) where
+    unspent : (eqb n 0 || c .apat) ≡ false
+    unspent = or-none-left (eqb n 0 || c .apat) (leb 256 (e .registers .key)) tests
+
+    pub some-left : (0 < n) × (e .visited + n ≤ count)
+    some-left =
+        let any = eqb-false n 0 (or-none-left (eqb n 0) (c .apat) unspent) in
+        (omega (arith, any), omega (arith, any, rest, least))
+
+    pub blit-some : (b : Blit) → b ≡ blitIn extent e → (p : Range) → p ≡ stretchOf w e count n → (k : ℕ)
+        → k ≡ p .past - p .from → (own′ : List ℕ) → own′ ≡ blitted b (p .from) k other own
+        → BlitDone budget extent e own other (record { pattern = e .pattern; steps = n; finished = eqb n left }) own′
+    blit-some b made p part k long own′ drawn =
+        let same = part ∙ ap₂ (λ w c. stretchOf w e c n) shown all-shown in
+        record {
+          within = omega (arith, least);
+          none = λ z. absurd (omega (arith, z, some-left .0));
+          some =
+              λ _. (
+                some-done extent e count all-shown budget left n rest least (e .pattern),
+                flag-is e c is (λ c. c .apat) false (or-none-right (eqb n 0) (c .apat) unspent),
+                leb-false 256 (e .registers .key) (or-none-right (eqb n 0 || c .apat) (leb 256 (e .registers .key)) tests),
+                refl,
+                drawn
+                    ∙ ap (λ k. blitted b (p .from) k other own) long
+                    ∙ ap₂ (λ (b : Blit) (p : Range). blitted b (p .from) (p .past - p .from) other own) made same,
+              );
+        }
+
+pub blit-visits : (budget : ℕ) (extent : Extent) (e : Engine) (own other : List ℕ) → isBlit (commandIn e) ≡ true → e .«under_way» ≡ true
+    → Fit extent (length own) (length other) → (r : Visits) (own′ : List ℕ) → BlitDone budget extent e own other r own′ → 0 < r .steps
+    → AreVisits extent e own other r own′
+blit-visits budget extent e own other blit under-way fit r own′ done any to drawn =
+    let some = done .some any in
+    let goes : Goes extent e (r .steps) (length own) (length other) =
+    record {
+      leaps = leaps-some extent e r (some .0) any (length own) (length other) fit under-way;
+      blit = blit;
+      plain = some .1;
+      key-small = some .2;
+    } in
+    rows-are extent e (r .steps) (length own) (length other) goes (afterVisits e r)
+    (after-moved extent e r (some .0) any ∙ ap (movedBy extent e (r .steps)) (some .3)) to own other (fit .own-long) (fit .other-long) drawn
+    own′ (some .4)
+
+-- the buffer that a fill reads, by the two flags
+source-is : (to from : Bool) (own other : List ℕ)
+    → cond (to && from || not to && not from) own other ≡ cond from (cond to own other) (cond to other own)
+source-is true true own other = refl
+source-is true false own other = refl
+source-is false true own other = refl
+source-is false false own other = refl
+
+pub tiled-visits : (budget : ℕ) (extent : Extent) (e : Engine) (own other : List ℕ) → isBlit (commandIn e) ≡ true → commandIn e .apat ≡ true
+    → e .«under_way» ≡ true → Fit extent (length own) (length other) → (r : Visits) (own′ : List ℕ) → TiledDone budget extent e own other r own′ → 0 < r .steps
+    → (to : Bool) → commandIn e .«to_virtual» ≡ to →
+    let d = cond to other own in
+    let v = cond to own other in
+    let f = fillOf extent (e .registers .xy0) (cond (commandIn e .«from_virtual») v d) in
+    scene (afterVisits e r) (fillAfter (afterVisits e r) f) (cond to other own′) (cond to own′ other) ≡ visitsOf (r .steps) extent (scene e f d v)
+tiled-visits budget extent e own other blit hatched under-way fit r own′ done any to drawn =
+    let some = done .some any in
+    let goes : GoesTiled extent e (r .steps) (length own) (length other) =
+    record {
+      leaps = leaps-some extent e r (some .0) any (length own) (length other) fit under-way;
+      blit = blit;
+      hatched = hatched;
+      unsolid = some .2;
+    } in
+    let moved = after-moved extent e r (some .0) any ∙ ap (movedBy extent e (r .steps)) (some .3) in
+    let from = commandIn e .«from_virtual» in
+    let f = fillOf extent (e .registers .xy0) (cond from (cond to own other) (cond to other own)) in
+    let s = stretchOf (windowIn extent (e .registers)) e (countOf extent e) (r .steps) in
+    let same : fillOf extent (e .registers .xy0) (cond (withinIn e) own other) ≡ f =
+    ap (fillOf extent (e .registers .xy0)) (ap (λ t. cond (t && from || not t && not from) own other) drawn ∙ source-is to from own other) in
+    let left = some .4 ∙ ap (λ (f : Fill). cond (f .whole)
+    (blitted (copyOf (tilingIn extent e)) (s .from) (s .past - s .from) (planeOf (extent .width) (extent .height) (f .tile)) own) own) same in
+    by-cases (f .whole)
+    (λ t. tiled-are extent e (r .steps) (length own) (length other) goes (afterVisits e r) moved f to drawn own other t (fit .own-long) own′ (left ∙ sym (first-of (f .whole) _ own t)))
+    (λ t.
+    ap (λ m. scene (afterVisits e r) (fillAfter (afterVisits e r) f) (cond to other m) (cond to m other)) (left ∙ sym (second-of (f .whole) _ own t))
+    ∙ missing-are extent e (r .steps) (length own) (length other) goes (afterVisits e r) moved f t (cond to other own) (cond to own other))
 
 -- whether one buffer is read and drawn on
 same-buffer : (to from within : Bool) (own other : Paint) → (to && from || not to && not from) ≡ within

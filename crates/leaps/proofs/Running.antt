@@ -1,14 +1,14 @@
 -- Steps of a list one after the other: many pixels at once, and the loop over entries and commands.
 -- Assumes nothing.
 use mathlib.Core.Path.{_≡_, refl, ap, ap₂, sym, _∙_}
-use mathlib.Core.Bool.{Bool, true, false, not, cond, _&&_, _||_, false≢true}
-use mathlib.Core.List.{List, []}
+use mathlib.Core.Bool.{Bool, true, false, not, _&&_, false≢true}
+use mathlib.Core.List.{List}
 use Prim.Native.Nat.{ℕ, zero, suc, _+_, _-_, _≤_, _<_, min, max}
 use native.Mathlib.Omega.{arith}
-use borrow.Author.Tests.{lt-ltb, le-ltb, ltb-true, ltb-false, leb-true, leb-false, not-true, not-false}
-use lib.Dec.{leb, ltb}
+use borrow.Author.Tests.{lt-ltb, le-ltb, ltb-true, ltb-false}
+use lib.Dec.{ltb}
 use lib.ListN.{length}
-use Rattle.lemmas.proofs.Booleans.{by-cases, or-first, or-none-left, or-none-right}
+use Rattle.lemmas.proofs.Booleans.{by-cases}
 use Rattle.geometry.specs.declared.Extent.{Extent}
 use Rattle.entries.specs.Fields.{isTrigger}
 use Rattle.entries.specs.declared.decoding.Entry.{Entry}
@@ -23,10 +23,10 @@ use Rattle.commands.specs.Steps.{Scene, scene, advancedBy, advancedOf, visitBy,
 use Rattle.commands.specs.declared.Engine.{Engine}
 use Rattle.commands.proofs.Bounds.{count-same}
 use Rattle.commands.proofs.Triggers.{put-entered}
-use Rattle.leaps.specs.declared.list_runs.Taken.{Taken}
-use Rattle.leaps.specs.declared.list_runs.Held.{Held}
-use Rattle.leaps.specs.Leaps.{withTile}
-use Rattle.leaps.specs.ListRuns.{Reached, Reaches, GoesTo, stopped, longer, byStep, runFrom, listRun, VisitsDone, Going, EntriesTaken}
+use Rattle.leaps.specs.declared.hatched.Burst.{Burst}
+use Rattle.leaps.specs.declared.list_runs.Progress.{Progress}
+use Rattle.leaps.specs.Leaps.{withTile, leftIn, Bursts, VisitsDone}
+use Rattle.leaps.specs.ListRuns.{Reached, Reaches, stopped, longer, byStep, runFrom, Going, BurstDone, EntriesRun}
 
 -- ---- sums of steps
 
@@ -87,6 +87,19 @@ visits-done budget extent s n k t u h p q e =
       busy = λ j below. still-busy extent s j u (omega arith);
     }
 
+-- a burst within the budget
+pub burst-done : (budget : ℕ) (extent : Extent) (e : Engine) (d v : List ℕ) (left n : ℕ) → e .«under_way» ≡ true → 0 < budget → left ≡ leftIn extent e
+    → n ≡ min budget left → (r : Burst) (d′ v′ : List ℕ) → Bursts n extent e d v r d′ v′ → BurstDone budget extent e d v r d′ v′
+burst-done budget extent e d v left n u some p q r d′ v′ b =
+    record {
+      some =
+          λ h.
+          let done = b .some h in
+          visits-done budget extent (withTile extent e d v) left (r .steps) (withTile extent (r .engine) d′ v′) u some p (done .0 ∙ q)
+          (done .1 ∙ ap (λ k. visitsOf k extent (withTile extent e d v)) (sym (done .0)));
+      none = λ z. let none = b .none z in (none .0, omega (arith, none .1, p, q), none .2);
+    }
+
 -- ---- how many steps
 
 pub record Within (budget : ℕ) (c : Cursor) (s : Scene) (r : Reached) : Type 0 where
@@ -100,7 +113,7 @@ within-more budget c s d t r w =
     record { few = omega (arith, w .few); early = λ f. omega (arith, w .early f); some = λ live asked f. omega arith }
 
 -- whether an illegal entry ended them, asked afterwards
-abbrev endsBroken : ℕ → Reached → Bool
+abbrev pub endsBroken : ℕ → Reached → Bool
 endsBroken budget r = ltb (r .steps) budget && not (endedOf (r .cursor) (r .after .engine .«under_way»))
 
 broken-more : (budget : ℕ) (r : Reached) → endsBroken (suc budget) (longer 1 r) ≡ endsBroken budget r
@@ -281,117 +294,55 @@ module _ (l : List ℕ) (extent : Extent) where
         reaches (k + j) d t broken (from budget c₀ s₀)
         ((λ i. record { steps = swap i; cursor = d; after = t; broken = broken }) ∙ ap (longer k) r ∙ going .same)
 
-  -- entries taken while no command is under way: they change no buffer
-  module _ (budget : ℕ) (c₀ : Cursor) (e₀ : Engine) where
-    pub record Resting (k : ℕ) (c : Cursor) (e : Engine) : Type 0 where
+  -- entries and commands, with none under way between them
+  module _ (budget : ℕ) (c₀ : Cursor) (s₀ : Scene) where
+    pub record Resting (k : ℕ) (c : Cursor) (e : Engine) (d v : List ℕ) : Type 0 where
       pub rests : e .«under_way» ≡ false
-      pub going : (d v : List ℕ) → Going l extent budget c₀ (withTile extent e₀ d v) k c (withTile extent e d v)
+      pub going : Going l extent budget c₀ s₀ k c (withTile extent e d v)
 
-    pub resting-start : e₀ .«under_way» ≡ false → Resting 0 c₀ e₀
-    resting-start u = record { rests = u; going = λ d v. going-start budget c₀ (withTile extent e₀ d v) }
+    abbrev progress : ℕ → Cursor → Engine → Progress
+    progress k c e = record { engine = e; cursor = c; steps = k }
 
-    abbrev resting : ℕ → Cursor → Engine → Taken
-    resting k c e = record { engine = e; cursor = c; steps = k; count = 0 }
+    -- the run ends with none under way
+    rests-over : (k : ℕ) (c : Cursor) (e : Engine) (d v : List ℕ) → Resting k c e d v → Reaches k c (withTile extent e d v) (from budget c₀ s₀)
+        → EntriesRun l extent budget c₀ s₀ (progress k c e) d v
+    rests-over k c e d v r over =
+        record { going = r .going; begun = λ u. absurd (false≢true (sym (r .rests) ∙ u)); over = λ _. over }
 
-    -- no command is under way at the end of the run
-    rests-over : (k : ℕ) (c : Cursor) (e : Engine) → Resting k c e
-        → ((d v : List ℕ) → Reaches k c (withTile extent e d v) (from budget c₀ (withTile extent e₀ d v)))
-        → EntriesTaken l extent budget c₀ e₀ (resting k c e)
-    rests-over k c e r over =
-        record { going = r .going; counted = λ u. absurd (false≢true (sym (r .rests) ∙ u)); over = λ _. over }
+    -- one is left under way
+    pub entries-begun : (k : ℕ) (c : Cursor) (e : Engine) (d v : List ℕ) → 0 < k → Going l extent budget c₀ s₀ k c (withTile extent e d v)
+        → e .«under_way» ≡ true → EntriesRun l extent budget c₀ s₀ (progress k c e) d v
+    entries-begun k c e d v some going u =
+        record { going = going; begun = λ _. some; over = λ t. absurd (false≢true (sym t ∙ u)) }
 
-    -- one is under way, with its count
-    pub entries-begun : (k : ℕ) (c : Cursor) (e : Engine) (n : ℕ)
-        → ((d v : List ℕ) → Going l extent budget c₀ (withTile extent e₀ d v) k c (withTile extent e d v))
-        → e .«under_way» ≡ true → n ≡ countOf extent e
-        → EntriesTaken l extent budget c₀ e₀ (record { engine = e; cursor = c; steps = k; count = n })
-    entries-begun k c e n going u counted =
-        record { going = going; counted = λ _. counted; over = λ t. absurd (false≢true (sym t ∙ u)) }
+    pub resting-spent : (k : ℕ) (c : Cursor) (e : Engine) (d v : List ℕ) → budget ≤ k → Resting k c e d v
+        → EntriesRun l extent budget c₀ s₀ (progress k c e) d v
+    resting-spent k c e d v h r =
+        rests-over k c e d v r
+        (reaches k c (withTile extent e d v) false (from budget c₀ s₀) (going-spent budget c₀ s₀ k c (withTile extent e d v) h (r .going)))
 
-    pub entries-none : (n : ℕ) → e₀ .«under_way» ≡ true → n ≡ countOf extent e₀
-        → EntriesTaken l extent budget c₀ e₀ (record { engine = e₀; cursor = c₀; steps = 0; count = n })
-    entries-none n u counted = entries-begun 0 c₀ e₀ n (λ d v. going-start budget c₀ (withTile extent e₀ d v)) u counted
-
-    pub resting-spent : (k : ℕ) (c : Cursor) (e : Engine) → budget ≤ k → Resting k c e → EntriesTaken l extent budget c₀ e₀ (resting k c e)
-    resting-spent k c e h r =
-        rests-over k c e r
-        (λ d v. reaches k c (withTile extent e d v) false (from budget c₀ (withTile extent e₀ d v)) (going-spent budget c₀ (withTile extent e₀ d v) k c (withTile extent e d v) h (r .going d v)))
-
-    module _ (k : ℕ) (c : Cursor) (e : Engine) (below : k < budget) (r : Resting k c e) where
+    module _ (k : ℕ) (c : Cursor) (e : Engine) (d v : List ℕ) (below : k < budget) (r : Resting k c e d v) where
       next-at : (x : Next) → nextOf l c false ≡ x → nextOf l c (e .«under_way») ≡ x
       next-at x h = ap (nextOf l c) (r .rests) ∙ h
 
       pub resting-takes : (x : Entry) → nextOf l c false ≡ Take x → (f : Engine) → f ≡ enteredOf extent e x
-          → (d v : List ℕ) → Going l extent budget c₀ (withTile extent e₀ d v) (k + 1) (fetchedOf c) (withTile extent f d v)
-      resting-takes x h f p d v =
-          going-takes budget c₀ (withTile extent e₀ d v) k c (withTile extent e d v) below (r .going d v) x (next-at (Take x) h) f p
+          → Going l extent budget c₀ s₀ (k + 1) (fetchedOf c) (withTile extent f d v)
+      resting-takes x h f p = going-takes budget c₀ s₀ k c (withTile extent e d v) below (r .going) x (next-at (Take x) h) f p
 
       -- an entry that triggers nothing leaves no command under way
       pub resting-goes : (x : Entry) → nextOf l c false ≡ Take x → isTrigger (x .register) ≡ false → (f : Engine) → f ≡ enteredOf extent e x
-          → Resting (k + 1) (fetchedOf c) f
+          → Resting (k + 1) (fetchedOf c) f d v
       resting-goes x h plain f p =
           record {
             rests = ap (λ (f : Engine). f .«under_way») (p ∙ sym (put-entered extent e x plain));
             going = resting-takes x h f p;
           }
 
-      pub resting-room : endOf (c₀ .span) < 4294967296 → (x : Entry) → nextOf l c false ≡ Take x → c .next + 1 < 4294967296
-      resting-room fits x h =
-          going-room budget c₀ (withTile extent e₀ [] []) k c (withTile extent e [] []) below (r .going [] []) fits x (next-at (Take x) h)
-
       -- no entry is left, or the next one is illegal
       pub resting-stops : (x : Next) (broken : Bool) → nextOf l c false ≡ x
           → ((s : Scene) (o : Reached) (f : Cursor → Scene → Reached) → byStep extent x c s o f ≡ stopped c s broken)
-          → EntriesTaken l extent budget c₀ e₀ (resting k c e)
+          → EntriesRun l extent budget c₀ s₀ (progress k c e) d v
       resting-stops x broken h stops =
-          rests-over k c e r
-          (λ d v.
-          reaches k c (withTile extent e d v) broken (from budget c₀ (withTile extent e₀ d v))
-          (going-stops budget c₀ (withTile extent e₀ d v) k c (withTile extent e d v) below (r .going d v) x broken (next-at x h) (stops (withTile extent e d v))))
-
-  -- entries taken within a run
-  module _ (budget : ℕ) (c₀ : Cursor) (s₀ : Scene) (k : ℕ) (c : Cursor) (e : Engine) (d v : List ℕ)
-      (going : Going l extent budget c₀ s₀ k c (withTile extent e d v)) (r : Taken) (taken : EntriesTaken l extent (budget - k) c e r) where
-    pub entries-going : Going l extent budget c₀ s₀ (k + r .steps) (r .cursor) (withTile extent (r .engine) d v)
-    entries-going = going-then budget c₀ s₀ k c (withTile extent e d v) going (r .steps) (r .cursor) (withTile extent (r .engine) d v) (taken .going d v)
-
-    abbrev ends : Bool
-    ends = leb budget (k + r .steps) || not (r .engine .«under_way»)
-
-    -- with the budget spent or no command under way, the run has ended
-    pub entries-end : ends ≡ true → Reaches (k + r .steps) (r .cursor) (withTile extent (r .engine) d v) (from budget c₀ s₀)
-    entries-end h =
-        by-cases (leb budget (k + r .steps))
-        (λ t.
-        reaches (k + r .steps) (r .cursor) (withTile extent (r .engine) d v) false (from budget c₀ s₀)
-        (going-spent budget c₀ s₀ (k + r .steps) (r .cursor) (withTile extent (r .engine) d v) (leb-true budget (k + r .steps) t) entries-going))
-        (λ t.
-        let idle = not-true (r .engine .«under_way») (or-first (leb budget (k + r .steps)) (not (r .engine .«under_way»)) h t) in
-        reaches-then budget c₀ s₀ k c (withTile extent e d v) going (r .steps) (r .cursor) (withTile extent (r .engine) d v) (taken .over idle d v))
-
-    module _ (h : ends ≡ false) where
-      pub entries-left : k + r .steps < budget
-      entries-left = leb-false budget (k + r .steps) (or-none-left (leb budget (k + r .steps)) (not (r .engine .«under_way»)) h)
-
-      pub entries-busy : r .engine .«under_way» ≡ true
-      entries-busy =
-          not-false (r .engine .«under_way») (or-none-right (leb budget (k + r .steps)) (not (r .engine .«under_way»)) h)
-
-  -- a list is run where its end fits
-  pub run-fits : (budget : ℕ) (c : Cursor) (s : Scene) → endOf (c .span) < 4294967296 → from budget c s ≡ listRun budget l extent c s
-  unfolding listRun
-  run-fits budget c s h = ap (λ t. cond t (from budget c s) (stopped c s false)) (sym (lt-ltb (endOf (c .span)) 4294967296 h))
-
-  pub run-none : (budget : ℕ) (c : Cursor) (s : Scene) → 4294967296 ≤ endOf (c .span) → stopped c s false ≡ listRun budget l extent c s
-  unfolding listRun
-  run-none budget c s h = ap (λ t. cond t (from budget c s) (stopped c s false)) (sym (le-ltb (endOf (c .span)) 4294967296 h))
-
-  -- what ended the steps, asked where they went to
-  pub ran-list : (budget : ℕ) (c : Cursor) (s : Scene) (r : Held) (d v : List ℕ) (t : Bool) → endOf (c .span) < 4294967296
-      → GoesTo r d v (from budget c s) → t ≡ endedOf (r .cursor) (r .engine .«under_way»)
-      → _≡_ {A = Reached} (record { steps = r .steps; cursor = r .cursor; after = scene (r .engine) (r .fill) d v; broken = ltb (r .steps) budget && not t })
-      (listRun budget l extent c s)
-  ran-list budget c s r d v t fits goes ended =
-      let same = ap (λ t. ltb (r .steps) budget && not t) ended ∙ ap (endsBroken budget) goes ∙ broken-is budget c s in
-      (λ i. record { steps = r .steps; cursor = r .cursor; after = scene (r .engine) (r .fill) d v; broken = same i })
-      ∙ goes ∙ run-fits budget c s fits
+          rests-over k c e d v r
+          (reaches k c (withTile extent e d v) broken (from budget c₀ s₀)
+          (going-stops budget c₀ s₀ k c (withTile extent e d v) below (r .going) x broken (next-at x h) (stops (withTile extent e d v))))

@@ -6,10 +6,10 @@ use mathlib.Core.List.{List}
 use Prim.Native.Nat.{ℕ, _+_, _-_, _*_, _≤_, _<_, min, max}
 use native.Mathlib.Nat.{mul-le-mul-left, mul-comm}
 use native.Mathlib.Omega.{arith}
-use borrow.Author.Tests.{eqb-true, leb-true, ltb-true, lt-ltb, le-leb}
-use lib.Dec.{eqb, ltb, leb}
+use borrow.Author.Tests.{eqb-true, eqb-false, ltb-false, lt-ltb, le-leb}
+use lib.Dec.{eqb, ltb}
 use lib.ListN.{length, getD, set}
-use Rattle.lemmas.proofs.Booleans.{by-cases, both, and-left, and-right}
+use Rattle.lemmas.proofs.Booleans.{by-cases, both, or-none-left, or-none-right}
 use Rattle.raster.proofs.Wide.{pen-as}
 use Rattle.geometry.specs.Coordinates.{origin, pointOf}
 use Rattle.geometry.specs.Clip.{rectOf, windowOf, inWindow, placeIn}
@@ -33,8 +33,9 @@ use Rattle.tiles.specs.Tiles.{noFill}
 use Rattle.commands.specs.Steps.{scene, inked, patternAfter, visitsOf}
 use Rattle.commands.specs.declared.Engine.{Engine}
 use Rattle.sources.specs.declared.Source.the-variants.{Value, Nothing}
-use Rattle.leaps.specs.Leaps.{movedTo, movedBy, penIn, dashesIn, strokeIn, canLeap, goesByStroke}
-use Rattle.leaps.proofs.Visiting.{sceneOn, unfilled, Marked, visits-are, Leaps, leaps-of}
+use Rattle.leaps.specs.declared.visits.Visits.{Visits}
+use Rattle.leaps.specs.Leaps.{movedTo, movedBy, penIn, dashesIn, strokeIn, afterVisits, StrokeDone}
+use Rattle.leaps.proofs.Visiting.{sceneOn, unfilled, Marked, visits-are, Leaps, Fit, leaps-some, after-moved, AreVisits, none-done, some-done}
 use Rattle.leaps.proofs.Blits.{place-of-visit, code-small, ink-value}
 use Rattle.geometry.specs.declared.Extent.{Extent}
 
@@ -152,22 +153,6 @@ pub record Goes (extent : Extent) (e : Engine) (n display virt : ℕ) : Type 0 w
   pub long : 1 < countOf extent e
   pub tall : extent .height ≤ 65536
 
-pub goes-of : (extent : Extent) (e : Engine) (n display virt : ℕ) → goesByStroke extent e n display virt ≡ true → Goes extent e n display virt
-unfolding goesByStroke
-goes-of extent e n display virt h =
-    let c1 = canLeap extent e n display virt in
-    let c2 = isLine (commandIn e) in
-    let c3 = ltb 1 (countOf extent e) in
-    let c4 = leb (extent .height) 65536 in
-    let h3 = and-left (c1 && c2 && c3) c4 h in
-    let h2 = and-left (c1 && c2) c3 h3 in
-    record {
-      leaps = leaps-of extent e n display virt (and-left c1 c2 h2);
-      line = and-right c1 c2 h2;
-      long = ltb-true 1 (countOf extent e) (and-right (c1 && c2) c3 h3);
-      tall = leb-true (extent .height) 65536 (and-right (c1 && c2 && c3) c4 h);
-    }
-
 -- a window fits its buffer
 bounded : (width height bottom : ℕ) → bottom ≤ origin + height → (bottom - origin) * width ≤ width * height
 bounded width height bottom h =
@@ -219,7 +204,7 @@ module _ (extent : Extent) (e : Engine) (n display virt : ℕ) (g : Goes extent 
       ∙ ap (λ (s : Dashed). visitsOf n extent (sceneOn noFill e to (s .buffer) other)) start
       ∙ ap (visitsOf n extent) (unfilled e (cond to other own) (cond to own other))
 
-  pub stroke-is : s ≡ strokeIn extent e n own → scene f noFill (cond to other (s .buffer)) (cond to (s .buffer) other) ≡ visitsOf n extent (scene e noFill (cond to other own) (cond to own other))
+  stroke-is : s ≡ strokeIn extent e n own → scene f noFill (cond to other (s .buffer)) (cond to (s .buffer) other) ≡ visitsOf n extent (scene e noFill (cond to other own) (cond to own other))
   unfolding strokeIn pixelsOf dashPixels
   stroke-is h =
       let a = pointOf (lineStart e) in
@@ -257,3 +242,37 @@ module _ (extent : Extent) (e : Engine) (c : Command) (is : c ≡ commandIn e) (
       → r ≡ strokeIn extent e n l
   unfolding strokeIn
   stroke-dashes s r h = let t : commandIn e .solid ≡ false = ap (λ (c : Command). c .solid) (sym is) ∙ s in rw t h
+
+-- ---- a line visited at once, by the number that was counted
+
+module _ (budget : ℕ) (extent : Extent) (e : Engine) (own : List ℕ) (line : isLine (commandIn e) ≡ true) (c : Command) (is : c ≡ commandIn e)
+    (start count : ℕ) (starts : start ≡ lineStart e) (counted : count ≡ lineCount (pointOf start) (pointOf (e .registers .xy1)) (c .nlst)) where
+  all-counted : count ≡ countOf extent e
+  all-counted =
+      counted ∙ ap₂ (λ k (c : Command). lineCount (pointOf k) (pointOf (e .registers .xy1)) (c .nlst)) starts is ∙ sym (count-is extent e line)
+
+  pub stroke-none : StrokeDone budget extent e own (record { pattern = e .pattern; steps = 0; finished = eqb count 0 }) own
+  stroke-none =
+      record { within = omega arith; none = λ _. (none-done extent e count all-counted, refl); some = λ h. absurd (omega (arith, h)) }
+
+  pub stroke-some : (left n : ℕ) → left ≡ count - e .visited → n ≡ min budget left → (eqb n 0 || ltb count 2) ≡ false
+      → (q : Pattern) (own′ : List ℕ) → dashed own′ q ≡ strokeIn extent e n own
+      → StrokeDone budget extent e own (record { pattern = q; steps = n; finished = eqb n left }) own′
+  stroke-some left n rest least tests q own′ drawn =
+      let any = eqb-false n 0 (or-none-left (eqb n 0) (ltb count 2) tests) in
+      let long = ltb-false count 2 (or-none-right (eqb n 0) (ltb count 2) tests) in
+      record {
+        within = omega (arith, least);
+        none = λ z. absurd (any z);
+        some = λ _. (some-done extent e count all-counted budget left n rest least q, omega (arith, long, all-counted), drawn);
+      }
+
+pub stroke-visits : (budget : ℕ) (extent : Extent) (e : Engine) (own other : List ℕ) → isLine (commandIn e) ≡ true → e .«under_way» ≡ true
+    → Fit extent (length own) (length other) → (r : Visits) (own′ : List ℕ) → StrokeDone budget extent e own r own′ → 0 < r .steps
+    → AreVisits extent e own other r own′
+stroke-visits budget extent e own other line under-way fit r own′ done any to drawn =
+    let some = done .some any in
+    let goes : Goes extent e (r .steps) (length own) (length other) =
+    record { leaps = leaps-some extent e r (some .0) any (length own) (length other) fit under-way; line = line; long = some .1; tall = fit .tall } in
+    stroke-is extent e (r .steps) (length own) (length other) goes (dashed own′ (r .pattern)) (afterVisits e r) (after-moved extent e r (some .0) any) to drawn
+    own other (fit .own-long) (some .2)

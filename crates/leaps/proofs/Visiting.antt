@@ -3,11 +3,11 @@
 use mathlib.Core.Path.{_≡_, refl, ap, sym, _∙_}
 use mathlib.Core.Bool.{Bool, true, false, cond, _&&_}
 use mathlib.Core.List.{List}
-use Prim.Native.Nat.{ℕ, zero, suc, _+_, _-_, _*_, _≤_, _<_}
+use Prim.Native.Nat.{ℕ, zero, suc, _+_, _-_, _*_, _≤_, _<_, min}
 use native.Mathlib.Omega.{arith}
-use borrow.Author.Tests.{eqb-true, ltb-true, ltb-false, leb-true, lt-ltb, le-ltb}
+use borrow.Author.Tests.{eqb-true, eqb-false, ltb-true, ltb-false, leb-true, lt-ltb, le-ltb}
 use lib.Dec.{eqb, ltb, leb}
-use Rattle.lemmas.proofs.Booleans.{by-cases, and-left, and-right}
+use Rattle.lemmas.proofs.Booleans.{by-cases, and-left, and-right, first-of, second-of}
 use Rattle.registers.specs.declared.dashes.Pattern.{Pattern}
 use Rattle.strokes.specs.Strokes.{Dashed}
 use Rattle.commands.specs.Visits.{commandIn, shows, countOf, targetOf, sourceAt}
@@ -17,7 +17,8 @@ use Rattle.commands.specs.Hatching.{fillAfter}
 use Rattle.commands.specs.Steps.{Scene, scene, inked, patternAfter, advancedBy, advancedOf, visitBy, visitOf, visitsBy, visitsOf}
 use Rattle.commands.specs.declared.Engine.{Engine}
 use Rattle.commands.proofs.Bounds.{count-same}
-use Rattle.leaps.specs.Leaps.{movedTo, finishedAt, movedBy, canLeap}
+use Rattle.leaps.specs.declared.visits.Visits.{Visits}
+use Rattle.leaps.specs.Leaps.{movedTo, finishedAt, movedBy, canLeap, buffersFit, restIn, afterVisits, NoneDone, SomeDone}
 use Rattle.geometry.specs.declared.Extent.{Extent}
 
 -- An engine beside the buffer that it draws on, which is the virtual one where `to` is true, and the other one; with the tile of
@@ -143,3 +144,70 @@ leaps-of extent e n display virt h =
       display-long = eqb-true display (extent .width * extent .height) (and-right (c1 && c2 && c3) c4 h4);
       virt-long = eqb-true virt (extent .width * extent .height) (and-right (c1 && c2 && c3 && c4) c5 h);
     }
+
+-- buffers of one extent, with no more rows than coordinates reach
+pub record Fit (extent : Extent) (own other : ℕ) : Type 0 where
+  pub tall : extent .height ≤ 65536
+  pub own-long : own ≡ extent .width * extent .height
+  pub other-long : other ≡ extent .width * extent .height
+
+pub fit-of : (extent : Extent) (own other : ℕ) → buffersFit extent own other ≡ true → Fit extent own other
+unfolding buffersFit
+fit-of extent own other h =
+    let area = extent .width * extent .height in
+    let c1 = leb (extent .height) 65536 in
+    let c2 = eqb own area in
+    let c3 = eqb other area in
+    let h2 = and-left (c1 && c2) c3 h in
+    record {
+      tall = leb-true (extent .height) 65536 (and-left c1 c2 h2);
+      own-long = eqb-true own area (and-right c1 c2 h2);
+      other-long = eqb-true other area (and-right (c1 && c2) c3 h);
+    }
+
+-- ---- visits done at once, of those that are left
+
+module _ (extent : Extent) (e : Engine) (r : Visits) (done : SomeDone extent e r) (any : 0 < r .steps) where
+  pub leaps-some : (own other : ℕ) → Fit extent own other → e .«under_way» ≡ true → Leaps extent e (r .steps) own other
+  leaps-some own other fit under-way =
+      record {
+        under-way = under-way;
+        any = any;
+        some = omega (arith, done .few, any);
+        few = omega (arith, done .few, any);
+        display-long = fit .own-long;
+        virt-long = fit .other-long;
+      }
+
+  pub after-moved : afterVisits e r ≡ movedBy extent e (r .steps) (r .pattern)
+  unfolding afterVisits
+  after-moved =
+      let over = finishedAt e (r .pattern) in
+      let more = movedTo e (r .steps) (r .pattern) in
+      by-cases (r .finished)
+      (λ t.
+      let all = eqb-true (r .steps) (restIn extent e) (sym (done .finished) ∙ t) in
+      sym (first-of (r .finished) over more t) ∙ sym (moved-over extent e (r .steps) (r .pattern) (omega (arith, all))))
+      (λ t.
+      let less = eqb-false (r .steps) (restIn extent e) (sym (done .finished) ∙ t) in
+      sym (second-of (r .finished) over more t) ∙ sym (moved-within extent e (r .steps) (r .pattern) (omega (arith, less, done .few))))
+
+-- that they are so many visits with no tile, on either buffer
+abbrev pub AreVisits : Extent → Engine → List ℕ → List ℕ → Visits → List ℕ → Type 0
+AreVisits extent e own other r own′ =
+    (to : Bool) → commandIn e .«to_virtual» ≡ to
+    → scene (afterVisits e r) noFill (cond to other own′) (cond to own′ other)
+    ≡ visitsOf (r .steps) extent (scene e noFill (cond to other own) (cond to own other))
+
+-- by the number that was counted
+module _ (extent : Extent) (e : Engine) (count : ℕ) (counted : count ≡ countOf extent e) where
+  pub none-done : NoneDone extent e (record { pattern = e .pattern; steps = 0; finished = eqb count 0 })
+  none-done = record { finished = ap (λ k. eqb k 0) counted; pattern = refl }
+
+  pub some-done : (budget left n : ℕ) → left ≡ count - e .visited → n ≡ min budget left → (q : Pattern)
+      → SomeDone extent e (record { pattern = q; steps = n; finished = eqb n left })
+  some-done budget left n rest least q =
+      record {
+        few = omega (arith, counted, rest, least);
+        finished = ap (eqb n) (rest ∙ ap (λ k. k - e .visited) counted);
+      }

@@ -1,8 +1,8 @@
 -- Many visits of one command at once: what the row and line loops are given. The visits themselves are those of `commands`.
 use mathlib.Core.Path.{_≡_}
-use mathlib.Core.Bool.{Bool, true, false, not, cond, _&&_}
+use mathlib.Core.Bool.{Bool, true, false, not, cond, _&&_, _||_}
 use mathlib.Core.List.{List}
-use Prim.Native.Nat.{ℕ, _+_, _-_, _*_, _%_, _<_, max}
+use Prim.Native.Nat.{ℕ, _+_, _-_, _*_, _%_, _≤_, _<_, max}
 use lib.Dec.{eqb, leb, ltb}
 use Rattle.raster.specs.Selectors.{penOf, selectorsOf}
 use Rattle.raster.specs.declared.Pen.{Pen}
@@ -14,20 +14,24 @@ use Rattle.geometry.specs.declared.Window.{Window}
 use Rattle.geometry.specs.declared.visible.Range.{Range}
 use Rattle.rows.specs.declared.Mix.{Mix}
 use Rattle.stipples.specs.declared.Stipple.{Stipple}
+use Rattle.blits.specs.Blits.{blitted}
+use Rattle.blits.specs.Tiled.{copyOf, planeOf}
 use Rattle.blits.specs.declared.Blit.{Blit}
 use Rattle.blits.specs.declared.Paint.{Paint}
 use Rattle.blits.specs.declared.tiled.Tiling.{Tiling}
 use Rattle.blits.specs.declared.Paint.the-variants.{Solid, Copied, Moved, Stippled, StippledWithin}
-use Rattle.entries.specs.Fields.{patternControlOf, isBlit, isLine}
+use Rattle.entries.specs.Fields.{patternControlOf, isBlit}
 use Rattle.registers.specs.declared.dashes.Pattern.{Pattern}
 use Rattle.registers.specs.declared.file.Registers.{Registers}
 use Rattle.strokes.specs.Strokes.{strokeOf, Dashed, dashed, dashesOf}
 use Rattle.strokes.specs.declared.Dashes.{Dashes}
+use Rattle.tiles.specs.Tiles.{fillOf}
 use Rattle.commands.specs.Visits.{commandIn, lineStart, windowIn, countOf}
 use Rattle.commands.specs.Hatching.{hatches, fillTaken}
 use Rattle.commands.specs.Steps.{Scene, scene, visitsOf}
 use Rattle.commands.specs.declared.Engine.{Engine}
-use Rattle.leaps.specs.declared.visits.Burst.{Burst}
+use Rattle.leaps.specs.declared.hatched.Burst.{Burst}
+use Rattle.leaps.specs.declared.visits.Visits.{Visits}
 
 -- The pen of a value. FORE, BACK, MASK and KEY are bytes where the registers are legal.
 abbrev pub penIn : Engine → ℕ → Pen
@@ -140,18 +144,6 @@ canLeap extent e n display virt =
     && eqb display (extent .width * extent .height)
     && eqb virt (extent .width * extent .height)
 
--- Row by row, from no tile, and by a line's error term.
-unfoldable pub goesByRows : Extent → Engine → ℕ → ℕ → ℕ → Bool
-goesByRows extent e n display virt =
-    canLeap extent e n display virt && isBlit (commandIn e) && not (commandIn e .apat) && ltb (e .registers .key) 256
-
-unfoldable pub goesByStroke : Extent → Engine → ℕ → ℕ → ℕ → Bool
-goesByStroke extent e n display virt =
-    canLeap extent e n display virt
-    && isLine (commandIn e)
-    && ltb 1 (countOf extent e)
-    && leb (extent .height) 65536
-
 -- Row by row from a tile.
 unfoldable pub goesByTile : Extent → Engine → ℕ → ℕ → ℕ → Bool
 goesByTile extent e n display virt =
@@ -173,3 +165,85 @@ leftIn extent e = max 1 (countOf extent e - e .visited)
 pub record Bursts (n : ℕ) (extent : Extent) (e : Engine) (d v : List ℕ) (r : Burst) (d′ v′ : List ℕ) : Type 0 where
   pub some : 0 < r .steps → (r .steps ≡ n) × (withTile extent (r .engine) d′ v′ ≡ visitsOf n extent (withTile extent e d v))
   pub none : r .steps ≡ 0 → (hatches e ≡ true) × (n < leftIn extent e) × (withTile extent (r .engine) d′ v′ ≡ withTile extent e d v)
+
+-- k visits of the command under way, within the budget, lead from s to t.
+pub record VisitsDone (budget : ℕ) (extent : Extent) (s : Scene) (k : ℕ) (t : Scene) : Type 0 where
+  pub some : 0 < k
+  pub few : k ≤ budget
+  pub visits : t ≡ visitsOf k extent s
+  pub busy : (j : ℕ) → j < k → visitsOf j extent s .engine .«under_way» ≡ true
+
+-- Whether both buffers have that extent, with no more rows than coordinates reach.
+unfoldable pub buffersFit : Extent → ℕ → ℕ → Bool
+buffersFit extent display virt =
+    leb (extent .height) 65536
+    && eqb display (extent .width * extent .height)
+    && eqb virt (extent .width * extent .height)
+
+-- What is left of the command in CMD.
+abbrev pub restIn : Extent → Engine → ℕ
+restIn extent e = countOf extent e - e .visited
+
+-- An engine after visits that were done at once.
+unfoldable pub afterVisits : Engine → Visits → Engine
+afterVisits e r = cond (r .finished) (finishedAt e (r .pattern)) (movedTo e (r .steps) (r .pattern))
+
+-- No visit done at once: whether the command has none.
+pub record NoneDone (extent : Extent) (e : Engine) (r : Visits) : Type 0 where
+  pub finished : r .finished ≡ eqb (countOf extent e) 0
+  pub pattern : r .pattern ≡ e .pattern
+
+-- Some visits done at once, of those that are left.
+pub record SomeDone (extent : Extent) (e : Engine) (r : Visits) : Type 0 where
+  pub few : r .steps ≤ restIn extent e
+  pub finished : r .finished ≡ eqb (r .steps) (restIn extent e)
+
+-- Visits of the line in CMD, within the budget, on the buffer that it draws on.
+pub record StrokeDone (budget : ℕ) (extent : Extent) (e : Engine) (own : List ℕ) (r : Visits) (own′ : List ℕ) : Type 0 where
+  pub within : r .steps ≤ budget
+  pub none : r .steps ≡ 0 → NoneDone extent e r × (own′ ≡ own)
+  pub some : 0 < r .steps
+      → SomeDone extent e r × (1 < countOf extent e) × (dashed own′ (r .pattern) ≡ strokeIn extent e (r .steps) own)
+
+-- Visits of the blit in CMD, from no tile.
+pub record BlitDone (budget : ℕ) (extent : Extent) (e : Engine) (own other : List ℕ) (r : Visits) (own′ : List ℕ) : Type 0 where
+  pub within : r .steps ≤ budget
+  pub none : r .steps ≡ 0 → NoneDone extent e r × (own′ ≡ own)
+  pub some : 0 < r .steps
+      → SomeDone extent e r
+      × (commandIn e .apat ≡ false)
+      × (e .registers .key < 256)
+      × (r .pattern ≡ e .pattern)
+      × (let s = stretchOf (windowIn extent (e .registers)) e (countOf extent e) (r .steps) in
+      own′ ≡ blitted (blitIn extent e) (s .from) (s .past - s .from) other own)
+
+-- All visits of the fill with a tile in CMD: the tile stands in the source buffer; of one that is not whole nothing is drawn.
+abbrev pub withinIn : Engine → Bool
+withinIn e =
+    let c = commandIn e in
+    c .«to_virtual» && c .«from_virtual» || not (c .«to_virtual») && not (c .«from_virtual»)
+
+pub record TiledDone (budget : ℕ) (extent : Extent) (e : Engine) (own other : List ℕ) (r : Visits) (own′ : List ℕ) : Type 0 where
+  pub within : r .steps ≤ budget
+  pub none : r .steps ≡ 0 → NoneDone extent e r × (own′ ≡ own)
+  pub some : 0 < r .steps
+      → SomeDone extent e r
+      × (r .steps ≡ countOf extent e)
+      × (commandIn e .solid ≡ false)
+      × (r .pattern ≡ e .pattern)
+      × (let f = fillOf extent (e .registers .xy0) (cond (withinIn e) own other) in
+      let s = stretchOf (windowIn extent (e .registers)) e (countOf extent e) (r .steps) in
+      own′
+      ≡ cond (f .whole)
+      (blitted (copyOf (tilingIn extent e)) (s .from) (s .past - s .from) (planeOf (extent .width) (extent .height) (f .tile)) own)
+      own)
+
+-- Visits of the command under way at once, on the buffer that it draws on; or none, where it is visited otherwise.
+pub record OnceOn (budget : ℕ) (extent : Extent) (e : Engine) (own other : List ℕ) (r : Visits) (own′ : List ℕ) : Type 0 where
+  pub within : r .steps ≤ budget
+  pub room : r .finished ≡ false → e .visited + r .steps < 4294967296
+  pub none : r .steps ≡ 0 → NoneDone extent e r × (own′ ≡ own)
+  pub any : 0 < r .steps → 0 < countOf extent e
+  pub some : 0 < r .steps → (to : Bool) → commandIn e .«to_virtual» ≡ to
+      → VisitsDone budget extent (withTile extent e (cond to other own) (cond to own other)) (r .steps)
+      (withTile extent (afterVisits e r) (cond to other own′) (cond to own′ other))

@@ -17,11 +17,9 @@ use Rattle.tiles.specs.declared.Fill.{Fill}
 use Rattle.commands.specs.Hatching.{hatches, fillAfter}
 use Rattle.commands.specs.Steps.{Scene, scene, visitOf, visitsOf, takenOf}
 use Rattle.commands.specs.declared.Engine.{Engine}
-use Rattle.leaps.specs.declared.list_runs.Taken.{Taken}
 use Rattle.leaps.specs.declared.list_runs.Progress.{Progress}
-use Rattle.leaps.specs.declared.list_runs.Held.{Held}
-use Rattle.leaps.specs.declared.visits.Burst.{Burst}
-use Rattle.leaps.specs.Leaps.{withTile, leftIn}
+use Rattle.leaps.specs.declared.hatched.Burst.{Burst}
+use Rattle.leaps.specs.Leaps.{withTile, leftIn, buffersFit, VisitsDone}
 use Rattle.leaps.specs.declared.list_runs.ListRun.{ListRun}
 
 -- Steps done, with the list and the scene after them, and whether an illegal entry ended them.
@@ -31,21 +29,10 @@ pub record Reached : Type 0 where
   pub after : Scene
   pub broken : Bool
 
-abbrev pub reached : ListRun → List ℕ → List ℕ → Reached
-reached r d v =
-    record { steps = r .steps; cursor = r .cursor; after = scene (r .engine) (r .fill) d v; broken = r .broken }
-
 -- The same but for what ended them.
 abbrev pub Reaches : ℕ → Cursor → Scene → Reached → Type 0
 Reaches steps cursor after o =
     _≡_ {A = Reached} (record { steps = steps; cursor = cursor; after = after; broken = o .broken }) o
-
-abbrev pub GoesTo : Held → List ℕ → List ℕ → Reached → Type 0
-GoesTo r d v o = Reaches (r .steps) (r .cursor) (scene (r .engine) (r .fill) d v) o
-
--- What is held with an engine: the tile of a fill that is under way.
-abbrev pub heldBy : Engine → Fill → Fill
-heldBy e fill = cond (hatches e) fill noFill
 
 abbrev pub stopped : Cursor → Scene → Bool → Reached
 stopped c s broken = record { steps = 0; cursor = c; after = s; broken = broken }
@@ -66,17 +53,10 @@ runFrom zero l extent c s = stopped c s false
 runFrom (suc budget) l extent c s =
     byStep extent (nextOf l c (s .engine .«under_way»)) c s (runFrom budget l extent c (visitOf extent s)) (runFrom budget l extent)
 
--- Entries are numbered in 32 bits: of a list that ends past them, which no well formed record holds, nothing
--- is run.
-unfoldable pub listRun : ℕ → List ℕ → Extent → Cursor → Scene → Reached
-listRun budget l extent c s = cond (ltb (endOf (c .span)) 4294967296) (runFrom budget l extent c s) (stopped c s false)
-
--- k visits of the command under way, within the budget, lead from s to t.
-pub record VisitsDone (budget : ℕ) (extent : Extent) (s : Scene) (k : ℕ) (t : Scene) : Type 0 where
-  pub some : 0 < k
-  pub few : k ≤ budget
-  pub visits : t ≡ visitsOf k extent s
-  pub busy : (j : ℕ) → j < k → visitsOf j extent s .engine .«under_way» ≡ true
+-- Entries are numbered in 32 bits: of a list that ends past them, or on buffers of another extent, nothing is run. No well formed
+-- record with its own memories is such.
+abbrev pub Runs : Extent → Cursor → List ℕ → List ℕ → Type 0
+Runs extent c d v = (endOf (c .span) < 4294967296) × (buffersFit extent (length d) (length v) ≡ true)
 
 -- k steps of a run are done, and the rest of it is that from here on.
 pub record Going (l : List ℕ) (extent : Extent) (budget : ℕ) (c₀ : Cursor) (s₀ : Scene) (k : ℕ) (c : Cursor) (s : Scene) : Type 0 where
@@ -91,12 +71,12 @@ pub record BurstDone (budget : ℕ) (extent : Extent) (e : Engine) (d v : List �
   pub some : 0 < r .steps → VisitsDone budget extent (withTile extent e d v) (r .steps) (withTile extent (r .engine) d′ v′)
   pub none : r .steps ≡ 0 → (hatches e ≡ true) × (budget < leftIn extent e) × (withTile extent (r .engine) d′ v′ ≡ withTile extent e d v)
 
--- Entries taken within a run, which change no buffer: with a command under way, its count is told; with none, the run has ended.
-pub record EntriesTaken (l : List ℕ) (extent : Extent) (budget : ℕ) (c₀ : Cursor) (e₀ : Engine) (r : Taken) : Type 0 where
-  pub going : (d v : List ℕ) → Going l extent budget c₀ (withTile extent e₀ d v) (r .steps) (r .cursor) (withTile extent (r .engine) d v)
-  pub counted : r .engine .«under_way» ≡ true → r .count ≡ countOf extent (r .engine)
-  pub over : r .engine .«under_way» ≡ false → (d v : List ℕ)
-      → Reaches (r .steps) (r .cursor) (withTile extent (r .engine) d v) (runFrom budget l extent c₀ (withTile extent e₀ d v))
+-- Entries and commands within a run: with a command left under way some steps are done; with none, the run has ended.
+pub record EntriesRun (l : List ℕ) (extent : Extent) (budget : ℕ) (c₀ : Cursor) (s₀ : Scene) (r : Progress) (d v : List ℕ) : Type 0 where
+  pub going : Going l extent budget c₀ s₀ (r .steps) (r .cursor) (withTile extent (r .engine) d v)
+  pub begun : r .engine .«under_way» ≡ true → 0 < r .steps
+  pub over : r .engine .«under_way» ≡ false
+      → Reaches (r .steps) (r .cursor) (withTile extent (r .engine) d v) (runFrom budget l extent c₀ s₀)
 
 -- Steps with no tile held: the run has ended, or has come to a fill with a tile that the budget cuts.
 pub record Unheld (l : List ℕ) (extent : Extent) (budget : ℕ) (c₀ : Cursor) (s₀ : Scene) (r : Progress) (d v : List ℕ) : Type 0 where
@@ -104,6 +84,17 @@ pub record Unheld (l : List ℕ) (extent : Extent) (budget : ℕ) (c₀ : Cursor
   pub cut : hatches (r .engine) ≡ true → budget - r .steps < leftIn extent (r .engine)
   pub over : hatches (r .engine) ≡ false
       → Reaches (r .steps) (r .cursor) (withTile extent (r .engine) d v) (runFrom budget l extent c₀ s₀)
+
+-- The same with what ended it.
+pub record ListRan (l : List ℕ) (extent : Extent) (budget : ℕ) (c₀ : Cursor) (s₀ : Scene) (r : ListRun) (d v : List ℕ) : Type 0 where
+  pub going : Runs extent c₀ (s₀ .display) (s₀ .virt)
+      → Going l extent budget c₀ s₀ (r .steps) (r .cursor) (withTile extent (r .engine) d v)
+  pub cut : Runs extent c₀ (s₀ .display) (s₀ .virt) → hatches (r .engine) ≡ true
+      → (budget - r .steps < leftIn extent (r .engine)) × (r .broken ≡ false)
+  pub over : Runs extent c₀ (s₀ .display) (s₀ .virt) → hatches (r .engine) ≡ false
+      → _≡_ {A = Reached}
+      (record { steps = r .steps; cursor = r .cursor; after = withTile extent (r .engine) d v; broken = r .broken })
+      (runFrom budget l extent c₀ s₀)
 
 -- k visits of a fill with a tile: all that the budget allows, up to its last pixel. Of another scene none.
 pub record HatchDone (budget : ℕ) (extent : Extent) (s : Scene) (k : ℕ) (e : Engine) (d v : List ℕ) : Type 0 where

@@ -1,27 +1,26 @@
 // Many steps of one display list.
 ghost use mathlib.Core.Path.{_≡_};
-ghost use mathlib.Core.Bool.{true};
-ghost use Prim.Native.Nat.{_<_};
-ghost use Rattle.lists.specs.Spans.{endOf};
-ghost use Rattle.commands.specs.Hatching.{hatches};
+ghost use mathlib.Core.Bool.{true, false};
+ghost use Prim.Native.Nat.{_+_, _<_};
+ghost use Rattle.entries.specs.Layout.{wordAt};
+ghost use Rattle.entries.specs.Legality.{dataLegal};
+ghost use Rattle.commands.specs.Entering.{putOf};
 ghost use Rattle.commands.specs.Visits.{countOf};
-ghost use Rattle.commands.specs.Steps.{scene};
-ghost use Rattle.leaps.specs.ListRuns.{heldBy, reached, GoesTo, runFrom, listRun, BurstDone, EntriesTaken, Unheld, HatchDone};
-ghost use Rattle.leaps.specs.Leaps.{withTile};
-use crate::visits::Burst;
-use crate::visits::visit_counted;
-use crate::visits::visit_hatched;
+ghost use Rattle.leaps.specs.Leaps.{withTile, buffersFit, afterVisits};
+ghost use Rattle.leaps.specs.ListRuns.{Runs, BurstDone, EntriesRun, Unheld, ListRan};
+use crate::hatched::Burst;
+use crate::hatched::visit_rest;
+use crate::visits::Visits;
+use crate::visits::visit_on;
 use commands::Engine;
-use entries::is_trigger;
+use entries::command_of;
+use entries::legal_data;
+use entries::word_at;
 use geometry::Extent;
 use lists::Cursor;
-use lists::Next;
-use lists::next_of;
 use numbers::max;
 use numbers::min;
 use numbers::saturating_sub;
-use tiles::Fill;
-use tiles::no_fill;
 
 // The pixels of the command under way, which visits `count`, as many as the budget allows; one where the count says that none
 // is left; and of a fill with a tile all or none.
@@ -38,78 +37,7 @@ fn visit_up_to(
 {
     let left = max(1, saturating_sub(count, e.visited as usize));
     let n = min(budget as usize, left);
-    visit_counted(e, extent, count, n, display, virt)
-}
-
-// Entries of a list, taken one after the other: the engine and the list after them, and the count of the command that is then
-// under way.
-pub struct Taken {
-    pub engine: Engine,
-    pub cursor: Cursor,
-    pub steps: u64,
-    pub count: usize,
-}
-
-// Entries after which no command is under way.
-fn resting(engine: Engine, cursor: Cursor, steps: u64) -> Taken
-    ensures { λ r. ⌜ r ≡ record { engine = engine; cursor = cursor; steps = steps; count = 0 } ⌝ }
-{
-    Taken {
-        engine,
-        cursor,
-        steps,
-        count: 0,
-    }
-}
-
-// Entries up to one that leaves a command under way, as many as the budget allows; none where one is under way.
-fn take_entries(start: Engine, extent: Extent, cursor: Cursor, budget: u64, list: &[u8]) -> Taken
-    requires { ⌜ endOf (cursor .span) < 4294967296 ⌝ }
-    ensures { λ r. ⌜ EntriesTaken (now (list .entry)) extent budget cursor start r ⌝ }
-{
-    if start.under_way {
-        return Taken {
-            engine: start,
-            cursor,
-            steps: 0,
-            count: start.count(extent),
-        };
-    }
-    let mut e = start;
-    let mut c = cursor;
-    let mut k: u64 = 0;
-    while k < budget {
-        match next_of(list, c, false) {
-            Next::Take(entry) => {
-                c.next = c.next + 1;
-                k = k + 1;
-                if is_trigger(entry.register) {
-                    let t = e.trigger(extent, entry.word);
-                    e = t.engine;
-                    if e.under_way {
-                        return Taken {
-                            engine: e,
-                            cursor: c,
-                            steps: k,
-                            count: t.count,
-                        };
-                    }
-                } else {
-                    e = e.take(extent, entry);
-                }
-            }
-            Next::Visit => {
-                return resting(e, c, k);
-            }
-            Next::Ended => {
-                return resting(e, c, k);
-            }
-            Next::Broken => {
-                return resting(e, c, k);
-            }
-        }
-    }
-    resting(e, c, k)
+    visit_rest(e, extent, count, n, display, virt)
 }
 
 // Steps of a list: the engine and the list after them.
@@ -119,8 +47,242 @@ pub struct Progress {
     pub steps: u64,
 }
 
-// The steps of a list whose end fits 32 bits: entries up to a command, and then its pixels. They end before a fill with a tile
-// that the budget cuts: no tile is held here.
+// An entry's word in its register, and whether it is legal there.
+pub struct Put {
+    pub engine: Engine,
+    pub legal: bool,
+}
+
+fn put_at(e: Engine, number: u32, list: &[u8], place: usize) -> Put
+    ensures { λ r. ⌜ (r .engine ≡ putOf e number (wordAt (now (list .entry)) place)) × (r .legal ≡ dataLegal number (wordAt (now (list .entry)) place)) ⌝ }
+{
+    let word = word_at(list, place);
+    Put {
+        engine: e.put(number, word),
+        legal: legal_data(number, word),
+    }
+}
+
+// An engine after pixels that were visited at once.
+fn engine_after(e: Engine, v: Visits) -> Engine
+    requires { ⌜ (v .finished ≡ false → e .visited + v .steps < 4294967296) ⌝ }
+    ensures { λ r. ⌜ r ≡ afterVisits e v ⌝ }
+{
+    let g = e.registers;
+    let p = v.pattern;
+    if v.finished {
+        return Engine {
+            under_way: false,
+            visited: 0,
+            registers: g,
+            pattern: p,
+            last: g.xy1,
+        };
+    }
+    Engine {
+        under_way: true,
+        visited: e.visited + v.steps as u32,
+        registers: g,
+        pattern: p,
+        last: e.last,
+    }
+}
+
+// Entries, and the commands that they trigger, up to one that is left under way. An entry's first byte has its register above
+// three zeros: there is an arm for each, so that a run chooses by the register once.
+fn run_entries(
+    start: Engine,
+    extent: Extent,
+    cursor: Cursor,
+    budget: u64,
+    list: &[u8],
+    display: &mut [u8],
+    virt: &mut [u8],
+) -> Progress
+    requires { ⌜ (start .«under_way» ≡ false) × Runs extent cursor (now display) (now virt) ⌝ }
+    ensures { λ r. ⌜ EntriesRun (now (list .entry)) extent budget cursor (withTile extent start (now (display .entry)) (now (virt .entry))) r (now (display .exit)) (now (virt .exit)) ⌝ }
+{
+    let s = cursor.span;
+    let end = min(s.end(), list.len() / 5);
+    let mut e = start;
+    let mut c = cursor;
+    let mut k: u64 = 0;
+    while (k < budget) & ((c.next as usize) < end) {
+        let place = c.next as usize;
+        match list[5 * place] {
+            0 => {
+                let p = put_at(e, 0, list, place);
+                if !p.legal {
+                    return Progress {
+                        engine: e,
+                        cursor: c,
+                        steps: k,
+                    };
+                }
+                e = p.engine;
+            }
+            8 => {
+                let p = put_at(e, 1, list, place);
+                if !p.legal {
+                    return Progress {
+                        engine: e,
+                        cursor: c,
+                        steps: k,
+                    };
+                }
+                e = p.engine;
+            }
+            16 => {
+                let p = put_at(e, 2, list, place);
+                if !p.legal {
+                    return Progress {
+                        engine: e,
+                        cursor: c,
+                        steps: k,
+                    };
+                }
+                e = p.engine;
+            }
+            24 => {
+                let p = put_at(e, 3, list, place);
+                if !p.legal {
+                    return Progress {
+                        engine: e,
+                        cursor: c,
+                        steps: k,
+                    };
+                }
+                e = p.engine;
+            }
+            32 => {
+                let p = put_at(e, 4, list, place);
+                if !p.legal {
+                    return Progress {
+                        engine: e,
+                        cursor: c,
+                        steps: k,
+                    };
+                }
+                e = p.engine;
+            }
+            40 => {
+                let p = put_at(e, 5, list, place);
+                if !p.legal {
+                    return Progress {
+                        engine: e,
+                        cursor: c,
+                        steps: k,
+                    };
+                }
+                e = p.engine;
+            }
+            48 => {
+                let p = put_at(e, 6, list, place);
+                if !p.legal {
+                    return Progress {
+                        engine: e,
+                        cursor: c,
+                        steps: k,
+                    };
+                }
+                e = p.engine;
+            }
+            56 => {
+                let p = put_at(e, 7, list, place);
+                if !p.legal {
+                    return Progress {
+                        engine: e,
+                        cursor: c,
+                        steps: k,
+                    };
+                }
+                e = p.engine;
+            }
+            64 => {
+                let p = put_at(e, 8, list, place);
+                if !p.legal {
+                    return Progress {
+                        engine: e,
+                        cursor: c,
+                        steps: k,
+                    };
+                }
+                e = p.engine;
+            }
+            72 => {
+                let p = put_at(e, 9, list, place);
+                if !p.legal {
+                    return Progress {
+                        engine: e,
+                        cursor: c,
+                        steps: k,
+                    };
+                }
+                e = p.engine;
+            }
+            80 => {
+                let p = put_at(e, 10, list, place);
+                if !p.legal {
+                    return Progress {
+                        engine: e,
+                        cursor: c,
+                        steps: k,
+                    };
+                }
+                e = p.engine;
+            }
+            88 => {
+                let p = put_at(e, 11, list, place);
+                if !p.legal {
+                    return Progress {
+                        engine: e,
+                        cursor: c,
+                        steps: k,
+                    };
+                }
+                e = p.engine;
+            }
+            96 => {
+                e = e.begin(word_at(list, place));
+                if e.under_way {
+                    let g = e.registers;
+                    let d = command_of(g.cmd);
+                    let v = if d.to_virtual {
+                        visit_on(e, extent, budget - k - 1, virt, display)
+                    } else {
+                        visit_on(e, extent, budget - k - 1, display, virt)
+                    };
+                    e = engine_after(e, v);
+                    k = k + v.steps;
+                    if !v.finished {
+                        c.next = c.next + 1;
+                        return Progress {
+                            engine: e,
+                            cursor: c,
+                            steps: k + 1,
+                        };
+                    }
+                }
+            }
+            _ => {
+                return Progress {
+                    engine: e,
+                    cursor: c,
+                    steps: k,
+                };
+            }
+        }
+        c.next = c.next + 1;
+        k = k + 1;
+    }
+    Progress {
+        engine: e,
+        cursor: c,
+        steps: k,
+    }
+}
+
+// The steps of a list whose end fits 32 bits. They end before a fill with a tile that the budget cuts: no tile is held here.
 fn run_unheld(
     start: Engine,
     extent: Extent,
@@ -130,34 +292,49 @@ fn run_unheld(
     display: &mut [u8],
     virt: &mut [u8],
 ) -> Progress
-    requires { ⌜ endOf (cursor .span) < 4294967296 ⌝ }
+    requires { ⌜ Runs extent cursor (now display) (now virt) ⌝ }
     ensures { λ r. ⌜ Unheld (now (list .entry)) extent budget cursor (withTile extent start (now (display .entry)) (now (virt .entry))) r (now (display .exit)) (now (virt .exit)) ⌝ }
 {
     let mut e = start;
     let mut c = cursor;
     let mut k: u64 = 0;
     while k < budget {
-        let r = take_entries(e, extent, c, budget - k, list);
-        e = r.engine;
-        c = r.cursor;
-        k = k + r.steps;
-        if (budget <= k) | !e.under_way {
-            return Progress {
-                engine: e,
-                cursor: c,
-                steps: k,
+        if e.under_way {
+            let g = e.registers;
+            let d = command_of(g.cmd);
+            let v = if d.to_virtual {
+                visit_on(e, extent, budget - k, virt, display)
+            } else {
+                visit_on(e, extent, budget - k, display, virt)
             };
+            if v.steps == 0 {
+                let b = visit_up_to(e, extent, e.count(extent), budget - k, display, virt);
+                e = b.engine;
+                if b.steps == 0 {
+                    return Progress {
+                        engine: e,
+                        cursor: c,
+                        steps: k,
+                    };
+                }
+                k = k + b.steps;
+            } else {
+                e = engine_after(e, v);
+                k = k + v.steps;
+            }
+        } else {
+            let r = run_entries(e, extent, c, budget - k, list, display, virt);
+            e = r.engine;
+            c = r.cursor;
+            k = k + r.steps;
+            if !e.under_way {
+                return Progress {
+                    engine: e,
+                    cursor: c,
+                    steps: k,
+                };
+            }
         }
-        let b = visit_up_to(e, extent, r.count, budget - k, display, virt);
-        e = b.engine;
-        if b.steps == 0 {
-            return Progress {
-                engine: e,
-                cursor: c,
-                steps: k,
-            };
-        }
-        k = k + b.steps;
     }
     Progress {
         engine: e,
@@ -166,132 +343,26 @@ fn run_unheld(
     }
 }
 
-// The pixels of a fill with a tile that is under way, as many as the budget allows.
-fn hatch_some(
-    e: Engine,
-    extent: Extent,
-    fill: Fill,
-    budget: u64,
-    display: &mut [u8],
-    virt: &mut [u8],
-) -> Burst
-    requires { ⌜ hatches e ≡ true ⌝ }
-    ensures { λ r. ⌜ HatchDone budget extent (scene e fill (now (display .entry)) (now (virt .entry))) (r .steps) (r .engine) (now (display .exit)) (now (virt .exit)) ⌝ }
+// Whether both buffers have that extent, with no more rows than coordinates reach.
+fn buffers_fit(extent: Extent, display: usize, virt: usize) -> bool
+    ensures { λ r. ⌜ r ≡ buffersFit extent display virt ⌝ }
 {
-    if budget == 0 {
-        return Burst {
-            engine: e,
-            steps: 0,
-        };
-    }
-    let count = e.count(extent);
-    let left = max(1, saturating_sub(count, e.visited as usize));
-    let n = min(budget as usize, left);
-    Burst {
-        engine: visit_hatched(e, extent, fill, count, n, display, virt),
-        steps: n as u64,
-    }
-}
-
-// The same; none where no such fill is under way. This test is its own function, so that a run without one hands no engine on.
-fn hatch_held(
-    e: Engine,
-    extent: Extent,
-    fill: Fill,
-    budget: u64,
-    display: &mut [u8],
-    virt: &mut [u8],
-) -> Burst
-    ensures { λ r. ⌜ HatchDone budget extent (scene e fill (now (display .entry)) (now (virt .entry))) (r .steps) (r .engine) (now (display .exit)) (now (virt .exit)) ⌝ }
-{
-    if !e.hatches() {
-        return Burst {
-            engine: e,
-            steps: 0,
-        };
-    }
-    hatch_some(e, extent, fill, budget, display, virt)
-}
-
-// The same with the fill after them.
-pub struct Held {
-    pub engine: Engine,
-    pub fill: Fill,
-    pub cursor: Cursor,
-    pub steps: u64,
-}
-
-// The steps of a list: a fill that is held from the run before, then those with none held, and last a fill that the budget
-// cuts.
-fn run_from(
-    start: Engine,
-    held: Fill,
-    extent: Extent,
-    cursor: Cursor,
-    budget: u64,
-    list: &[u8],
-    display: &mut [u8],
-    virt: &mut [u8],
-) -> Held
-    requires { ⌜ endOf (cursor .span) < 4294967296 ⌝ }
-    ensures { λ r. ⌜ GoesTo r (now (display .exit)) (now (virt .exit)) (runFrom budget (now (list .entry)) extent cursor (scene start (heldBy start held) (now (display .entry)) (now (virt .entry)))) ⌝ }
-{
-    let h = hatch_held(start, extent, held, budget, display, virt);
-    let e = h.engine;
-    if e.hatches() {
-        return Held {
-            engine: e,
-            fill: held,
-            cursor,
-            steps: h.steps,
-        };
-    }
-    let r = run_unheld(e, extent, cursor, budget - h.steps, list, display, virt);
-    let f = r.engine;
-    let c = r.cursor;
-    let k = h.steps + r.steps;
-    if !f.hatches() {
-        return Held {
-            engine: f,
-            fill: no_fill(),
-            cursor: c,
-            steps: k,
-        };
-    }
-    let fill = f.fill_taken(extent, display, virt);
-    let b = hatch_some(f, extent, fill, budget - k, display, virt);
-    let g = b.engine;
-    Held {
-        engine: g,
-        fill: g.fill_after(fill),
-        cursor: c,
-        steps: k + b.steps,
-    }
+    let area = (extent.width as usize) * (extent.height as usize);
+    (extent.height <= 65536) & (display == area) & (virt == area)
 }
 
 // The same, and whether an illegal entry ended them within the budget.
 pub struct ListRun {
     pub engine: Engine,
-    pub fill: Fill,
     pub cursor: Cursor,
     pub steps: u64,
     pub broken: bool,
 }
 
-// What is held with an engine: a fill's tile, and nothing else.
-fn held_by(e: Engine, fill: Fill) -> Fill
-    ensures { λ r. ⌜ r ≡ heldBy e fill ⌝ }
-{
-    if e.hatches() {
-        return fill;
-    }
-    no_fill()
-}
-
-// As many steps of a list as the budget allows, up to its end or its first illegal entry.
+// As many steps of a list as the budget allows, up to its end or its first illegal entry, or to a fill with a tile that the budget
+// cuts. Of a list that ends past 32 bits, or on buffers of another extent, none.
 pub fn run_list(
     start: Engine,
-    held: Fill,
     extent: Extent,
     cursor: Cursor,
     budget: u64,
@@ -299,28 +370,26 @@ pub fn run_list(
     display: &mut [u8],
     virt: &mut [u8],
 ) -> ListRun
-    ensures { λ r. ⌜ reached r (now (display .exit)) (now (virt .exit)) ≡ listRun budget (now (list .entry)) extent cursor (scene start (heldBy start held) (now (display .entry)) (now (virt .entry))) ⌝ }
+    ensures { λ r. ⌜ ListRan (now (list .entry)) extent budget cursor (withTile extent start (now (display .entry)) (now (virt .entry))) r (now (display .exit)) (now (virt .exit)) ⌝ }
 {
     let s = cursor.span;
-    if 4294967295 < s.end() {
+    let fit = buffers_fit(extent, display.len(), virt.len());
+    if (4294967295 < s.end()) | !fit {
         return ListRun {
             engine: start,
-            fill: held_by(start, held),
             cursor,
             steps: 0,
             broken: false,
         };
     }
-    let r = run_from(start, held, extent, cursor, budget, list, display, virt);
+    let r = run_unheld(start, extent, cursor, budget, list, display, virt);
     let e = r.engine;
     let c = r.cursor;
-    let fill = r.fill;
     let ended = c.ended(e.under_way);
     ListRun {
         engine: e,
-        fill,
         cursor: c,
         steps: r.steps,
-        broken: (r.steps < budget) & !ended,
+        broken: (r.steps < budget) & !ended & !e.hatches(),
     }
 }

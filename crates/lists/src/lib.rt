@@ -5,7 +5,6 @@ mod spans;
 
 pub use cursors::Cursor;
 pub use cursors::Next;
-pub use cursors::next_of;
 pub use spans::Illegal;
 pub use spans::Span;
 pub use spans::first_illegal;

@@ -1,6 +1,6 @@
 -- A call on an image answers as the call on its record, and is refused where the image is no record's.
 -- Assumes nothing.
-use mathlib.Core.Path.{_≡_, ap}
+use mathlib.Core.Path.{_≡_, refl, ap, _∙_}
 use mathlib.Core.Bool.{Bool, true, false, not}
 use mathlib.Core.List.{List}
 use Prim.Native.Nat.{ℕ}
@@ -8,7 +8,7 @@ use borrow.Author.Tests.{not-true, not-false}
 use Rattle.answers.specs.Reports.{reportOf}
 use Rattle.board.specs.Calls.{reply, makeCall, postCall, written, storeCall, writeCall}
 use Rattle.board.specs.Steps.{machine}
-use Rattle.board.specs.Runs.{outcome, runCall}
+use Rattle.board.specs.Runs.{runCall}
 use Rattle.board.specs.Feeding.{feedReply, feedCall}
 use Rattle.board.specs.Picturing.{exported, exportCall, importCall}
 use Rattle.board.specs.declared.answer.ExportAnswer.{ExportAnswer}
@@ -17,7 +17,7 @@ use Rattle.feeds.specs.declared.Feed.{Feed}
 use Rattle.board.specs.declared.answer.Answer.{Answer}
 use Rattle.board.specs.declared.record.Board.{Board}
 use Rattle.pramolyt.specs.Image.{wordsOf, boardOf, flagsOk}
-use Rattle.pramolyt.specs.Exports.{ofImage, made, madeBy, makeImage, posted, postedBy, postImage, changed, changedBy, storeImage, writeImage, pictured, picturedBy, exportImage, importImage, ran, ranBy, runImage, received, receivedBy, feedImage}
+use Rattle.pramolyt.specs.Exports.{ofImage, made, madeBy, makeImage, posted, postedBy, postImage, changed, changedBy, storeImage, writeImage, pictured, picturedBy, exportImage, importImage, Ran, ran, ranBy, runImage, received, receivedBy, feedImage}
 
 -- a flag is neither 0 nor 1
 module _ (w : List ℕ) (t : Bool) (judged : t ≡ flagsOk w) (bad : not t ≡ true) where
@@ -110,9 +110,10 @@ module _ (a : Answer) (words : List ℕ) (encoded : words ≡ wordsOf (a .board)
     import-done n picture buffer memory answered =
         rw (encoded, numbered) (done changedBy (importCall n picture buffer) (written a memory) answered (changed 1 w buffer))
 
-    pub run-done : (budget : ℕ) (list display virt d v : List ℕ) → outcome a d v ≡ runCall budget list (machine b display virt)
-        → (steps : ℕ) → steps ≡ reportOf (a .status) .steps → ran number words steps d v ≡ runImage w budget list display virt
-    unfolding runImage
-    run-done budget list display virt d v answered steps stepped =
-        rw (encoded, numbered, stepped)
-        (done ranBy (λ b. runCall budget list (machine b display virt)) (outcome a d v) answered (ran 1 w 0 display virt))
+-- a run of the record of an image
+pub run-done : (w : List ℕ) (t : Bool) → t ≡ flagsOk w → not t ≡ false → (budget : ℕ) (list display virt : List ℕ) (r : Ran)
+    → r ≡ ranBy (runCall budget list (machine (boardOf w) display virt)) → r ≡ runImage w budget list display virt
+unfolding runImage
+run-done w t judged good budget list display virt r is =
+    is ∙ on-record w t judged good (boardOf w) refl (λ (r : Ran). r) (λ b. ranBy (runCall budget list (machine b display virt)))
+    (ranBy (runCall budget list (machine (boardOf w) display virt))) refl (ran 1 w 0 display virt)

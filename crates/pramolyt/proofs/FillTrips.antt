@@ -69,6 +69,22 @@ as-four t i =
     let first : 4 * i ≡ 4 * i + 0 = omega arith in
     ap (λ (n : ℕ). wordOf (pixelOf t n (i / 4)) (pixelOf t (4 * i + 1) (i / 4)) (pixelOf t (4 * i + 2) (i / 4)) (pixelOf t (4 * i + 3) (i / 4))) first
 
+-- as the code reads it, from its row
+column : (i j : ℕ) → j < 4 → (4 * i + j) % 16 ≡ 4 * (i % 4) + j
+column i j h = by (4 * i + j) (i / 4) (4 * (i % 4) + j) (omega arith) (omega arith)
+  where
+    by : (x q r : ℕ) → x ≡ 16 * q + r → r < 16 → x % 16 ≡ r
+    by x q r e f = omega arith
+
+pub word-at : (t : Tile) (i : ℕ) → i < 32 →
+    let p = getD (t .rows) (i / 4) noRow .pixels in
+    let m = 4 * (i % 4) in
+    wordOf (getD p m 0) (getD p (m + 1) 0) (getD p (m + 2) 0) (getD p (m + 3) 0) ≡ tileWord t i
+word-at t i h =
+    let row : i / 4 % 8 ≡ i / 4 = omega arith in
+    let first : 4 * i % 16 ≡ 4 * (i % 4) = ap (λ n. n % 16) (omega arith) ∙ column i 0 (omega arith) ∙ omega arith in
+    rw (row, first, column i 1 (omega arith), column i 2 (omega arith), column i 3 (omega arith))
+
 word-decoded : (w : List ℕ) (i : ℕ) → i < 32 → tileWord (tileIn w) i ≡ getD w (tileAt + i) 0
 word-decoded w i p =
     as-four (tileIn w) i ∙ word-of (getD w (tileAt + i) 0) (λ m. pixelOf (tileIn w) (4 * i + m) (i / 4)) (λ m q. decoded-at w i m p q)

@@ -13,9 +13,10 @@ use Rattle.lemmas.specs.Numbers.{below}
 use Rattle.lemmas.specs.Turns.{inTurn}
 use Rattle.lemmas.proofs.Booleans.{both, and-left, and-right}
 use Rattle.slots.specs.Slots.{slotOf}
+use Rattle.board.specs.Bare.{bareOf}
 use Rattle.board.specs.declared.record.Board.{Board}
 use Rattle.pramolyt.specs.FillImage.{fillAt, tileWord, tileBlankIn}
-use Rattle.pramolyt.specs.Image.{flagOf, sizesWords, slotWords, commandWords, registersWords, patternWords, lastWords, DecodesEncoded, EncodesFlags, EncodesDecoded}
+use Rattle.pramolyt.specs.Image.{flagOf, sizesWords, slotWords, commandWords, registersWords, patternWords, lastWords, wordsOf, bareIn, DecodesEncoded, EncodesFlags, EncodesDecoded}
 use Rattle.pramolyt.proofs.FillTrips.{fill-encoded, fill-decoded}
 
 flag-decoded : (t : Bool) → eqb (flagOf t) 1 ≡ t
@@ -38,6 +39,9 @@ headOf b =
     ++ registersWords (b .engine .registers)
     ++ patternWords (b .engine .pattern)
     ++ lastWords (b .engine)
+
+pub bare-decoded : (b : Board) → bareIn (wordsOf b) ≡ bareOf b
+bare-decoded b = rw (flag-decoded (b .active .taken), flag-decoded (b .pending .taken), flag-decoded (b .engine .«under_way»))
 
 pub decodes-encoded : DecodesEncoded
 decodes-encoded b kept =

@@ -13,6 +13,9 @@ use Rattle.commands.specs.declared.Engine.{Engine}
 use Rattle.slots.specs.Slots.{slotOf}
 use Rattle.slots.specs.declared.record.Sizes.{Sizes}
 use Rattle.slots.specs.declared.record.Slot.{Slot}
+use Rattle.tiles.specs.Tiles.{noFill}
+use Rattle.board.specs.Bare.{bareOf}
+use Rattle.board.specs.declared.bare.Bare.{Bare}
 use Rattle.board.specs.declared.record.Board.{Board}
 use Rattle.pramolyt.specs.FillImage.{fillAt, fillWords, fillIn, tileBlankIn, Kept}
 
@@ -139,6 +142,13 @@ boardOf w =
       engine = engineIn w;
       fill = fillIn w;
     }
+
+-- The record of an image but for its tile, and one with no tile.
+abbrev pub bareIn : List ℕ → Bare
+bareIn w = bareOf (boardOf w)
+
+abbrev pub untiled : Bare → Board
+untiled b = record { sizes = b .sizes; active = b .active; pending = b .pending; engine = b .engine; fill = noFill }
 
 -- Whether each of the four flags is 0 or 1, and zeros stand where no tile is held.
 abbrev pub flagsOk : List ℕ → Bool

@@ -1,3 +1,4 @@
 pub mod FillImage
 pub mod Image
 pub mod Exports
+pub mod Parts

@@ -11,7 +11,6 @@ use tiles::Fill;
 use tiles::Row;
 use tiles::Tile;
 use tiles::no_fill;
-use tiles::pixel;
 
 // Whether every word of the tile is 0.
 pub(crate) fn tile_blank_in(w: [u32; WORDS]) -> bool
@@ -83,11 +82,10 @@ fn tile_word(tile: Tile, i: usize) -> u32
     requires { ⌜ i < 32 ⌝ }
     ensures { λ r. ⌜ r ≡ tileWord tile i ⌝ }
 {
-    let a = pixel(tile, 4 * i, i / 4);
-    let b = pixel(tile, 4 * i + 1, i / 4);
-    let c = pixel(tile, 4 * i + 2, i / 4);
-    let d = pixel(tile, 4 * i + 3, i / 4);
-    word(a, b, c, d)
+    let row = tile.rows[i / 4];
+    let p = row.pixels;
+    let m = 4 * (i % 4);
+    word(p[m], p[m + 1], p[m + 2], p[m + 3])
 }
 
 // An image with a fill's words, which were zeros.

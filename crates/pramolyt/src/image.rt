@@ -1,10 +1,11 @@
 // The board record as words of 32 bits, part by part.
 ghost use mathlib.Core.Path.{_≡_};
 ghost use Prim.Native.Nat.{_+_, _≤_};
-ghost use Rattle.pramolyt.specs.Image.{sizesAt, commandAt, registersAt, patternAt, lastAt, words, flagOf, putWords, sizesWords, slotWords, commandWords, registersWords, patternWords, lastWords, wordsOf, sizesIn, slotIn, registersIn, patternIn, engineIn, boardOf, flagsOk};
+ghost use Rattle.pramolyt.specs.Image.{sizesAt, commandAt, registersAt, patternAt, lastAt, words, flagOf, putWords, sizesWords, slotWords, commandWords, registersWords, patternWords, lastWords, wordsOf, sizesIn, slotIn, registersIn, patternIn, engineIn, boardOf, bareIn, untiled, flagsOk};
 use crate::fill_image::fill_in;
 use crate::fill_image::put_fill;
 use crate::fill_image::tile_blank_in;
+use board::Bare;
 use board::Board;
 use commands::Engine;
 use geometry::Extent;
@@ -124,16 +125,16 @@ fn engine_in(w: [u32; WORDS]) -> Engine
     }
 }
 
-// The record of an image.
-pub(crate) fn decode(w: [u32; WORDS]) -> Board
-    ensures { λ r. ⌜ r ≡ boardOf w ⌝ }
+// The record of an image, but for its tile.
+pub(crate) fn decode_bare(w: [u32; WORDS]) -> Bare
+    ensures { λ r. ⌜ r ≡ bareIn w ⌝ }
 {
     let z = sizes_in(w);
     let a = slot_in(w, ACTIVE);
     let s = a.span;
     let p = slot_in(w, PENDING);
     let e = engine_in(w);
-    Board {
+    Bare {
         sizes: z,
         active: Active {
             taken: a.taken,
@@ -142,6 +143,23 @@ pub(crate) fn decode(w: [u32; WORDS]) -> Board
                 next: w[NEXT],
             },
         },
+        pending: p,
+        engine: e,
+    }
+}
+
+// The record of an image.
+pub(crate) fn decode(w: [u32; WORDS]) -> Board
+    ensures { λ r. ⌜ r ≡ boardOf w ⌝ }
+{
+    let b = decode_bare(w);
+    let z = b.sizes;
+    let a = b.active;
+    let p = b.pending;
+    let e = b.engine;
+    Board {
+        sizes: z,
+        active: a,
         pending: p,
         engine: e,
         fill: fill_in(w),
@@ -202,9 +220,9 @@ fn put_command(w: [u32; WORDS], e: Engine) -> [u32; WORDS]
     v
 }
 
-// The image of a record.
-pub(crate) fn encode(b: Board) -> [u32; WORDS]
-    ensures { λ r. ⌜ r ≡ wordsOf b ⌝ }
+// The image of a record with no tile.
+pub(crate) fn encode_bare(b: Bare) -> [u32; WORDS]
+    ensures { λ r. ⌜ r ≡ wordsOf (untiled b) ⌝ }
 {
     let z = b.sizes;
     let a = b.active;
@@ -212,11 +230,28 @@ pub(crate) fn encode(b: Board) -> [u32; WORDS]
     let p = b.pending;
     let e = b.engine;
     let g = e.registers;
-    let f = b.fill;
     let blank = [0; WORDS];
     let sized = put_sizes(blank, z);
     let active = put_slot(sized, ACTIVE, a.slot());
     let mut both = put_slot(active, PENDING, p);
     both[NEXT] = c.next;
-    put_fill(put_command(put_registers(both, g), e), f)
+    put_command(put_registers(both, g), e)
+}
+
+// The image of a record.
+pub(crate) fn encode(b: Board) -> [u32; WORDS]
+    ensures { λ r. ⌜ r ≡ wordsOf b ⌝ }
+{
+    let z = b.sizes;
+    let a = b.active;
+    let p = b.pending;
+    let e = b.engine;
+    let f = b.fill;
+    let bare = Bare {
+        sizes: z,
+        active: a,
+        pending: p,
+        engine: e,
+    };
+    put_fill(encode_bare(bare), f)
 }

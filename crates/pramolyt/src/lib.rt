@@ -3,6 +3,7 @@
 // the edition of the record and of the arguments: a change of either changes the names, here and in the header.
 ghost use mathlib.Core.Path.{_≡_};
 ghost use Rattle.pramolyt.specs.Exports.{made, makeImage, posted, postImage, changed, storeImage, writeImage, pictured, exportImage, importImage, ran, runImage, feedOf, received, feedImage, filed, packFile, unpackFile};
+ghost use Rattle.pramolyt.specs.Parts.{holdsIn, HatchedImage};
 ghost use Rattle.feeds.specs.Feeds.{startAt};
 
 mod fill_image;
@@ -10,9 +11,12 @@ mod image;
 
 use board::Board;
 use feeds::Feed;
+use image::FILL;
 use image::WORDS;
 use image::decode;
+use image::decode_bare;
 use image::encode;
+use image::encode_bare;
 use image::flags_ok;
 use packing::pack;
 use packing::unpack;
@@ -139,6 +143,43 @@ pub extern "C" fn pramolyt_import_r2(
     status.number()
 }
 
+// Whether an image holds a tile, or a fill with one is under way.
+fn holds(w: [u32; WORDS]) -> bool
+    ensures { λ r. ⌜ r ≡ holdsIn w ⌝ }
+{
+    let b = decode_bare(w);
+    let e = b.engine;
+    (w[FILL] == 1) | e.hatches()
+}
+
+// The steps of a held fill: their number, the answer, and whether the run ends with them.
+struct Hatched {
+    steps: u64,
+    number: u32,
+    ended: bool,
+}
+
+// A fill that is held in an image, as many pixels as the budget allows.
+fn hatch_image(
+    board: &mut [u32; WORDS],
+    budget: u64,
+    list: &[u8],
+    display: &mut [u8],
+    virt: &mut [u8],
+) -> Hatched
+    ensures { λ r. ⌜ HatchedImage budget (now (list .entry)) (now (board .entry)) (now (display .entry)) (now (virt .entry)) r (now (board .exit)) (now (display .exit)) (now (virt .exit)) ⌝ }
+{
+    let b = decode(*board);
+    let ran = b.hatch(budget, list, display, virt);
+    let status = ran.status;
+    *board = encode(ran.board);
+    Hatched {
+        steps: status.steps(),
+        number: status.number(),
+        ended: ran.ended,
+    }
+}
+
 #[no_mangle]
 pub extern "C" fn pramolyt_run_r2(
     board: &mut [u32; WORDS],
@@ -155,11 +196,28 @@ pub extern "C" fn pramolyt_run_r2(
         *steps = 0;
         return 1;
     }
-    let b = decode(w);
-    let ran = b.run(budget, list, display, virt);
+    let mut done: u64 = 0;
+    if holds(w) {
+        let h = hatch_image(board, budget, list, display, virt);
+        if h.ended {
+            *steps = h.steps;
+            return h.number;
+        }
+        done = h.steps;
+    }
+    let b = decode_bare(*board);
+    let ran = b.run(budget - done, list, display, virt);
+    let after = ran.bare;
     let status = ran.status;
-    *board = encode(ran.board);
-    *steps = status.steps();
+    let k = done + status.steps();
+    if ran.cut {
+        *board = encode(after.held(display, virt));
+        let h = hatch_image(board, budget - k, list, display, virt);
+        *steps = k + h.steps;
+        return h.number;
+    }
+    *board = encode_bare(after);
+    *steps = k;
     status.number()
 }
 

@@ -1,31 +1,22 @@
 -- Every call keeps what the types say of a board with its buffers: pixels are bytes, and the fill is one that comes back from its
 -- words. A step takes the tile from a buffer, keeps it, or drops it.
 -- Assumes nothing.
-use mathlib.Core.Path.{_≡_, refl, ap, sym, subst, _∙_}
-use mathlib.Core.Bool.{Bool, true, false, cond, _&&_, _||_, false≢true}
+use mathlib.Core.Path.{_≡_, refl, ap, sym, subst}
+use mathlib.Core.Bool.{Bool, true, false, cond, _&&_, _||_}
 use mathlib.Core.List.{List, [], _∷_, _++_}
-use Prim.Native.Nat.{ℕ, zero, suc, _+_, _-_, _*_, _%_, _<_}
+use Prim.Native.Nat.{ℕ, zero, suc, _+_, _-_, _*_, _<_}
 use native.Mathlib.Omega.{arith}
 use lib.Dec.{eqb, leb}
-use lib.ListN.{length, getD, take, drop, getD-replicate}
+use lib.ListN.{length, take, drop}
 use lib.Seq.{getD-drop}
 use Rattle.lemmas.specs.Memory.{putInto}
-use Rattle.lemmas.proofs.Booleans.{by-cases, of-either, first-of, second-of}
-use Rattle.lemmas.proofs.Numbers.{map-below-length, map-below-at}
-use Rattle.geometry.specs.Coordinates.{pointOf}
-use Rattle.geometry.specs.Clip.{placeIn}
+use Rattle.lemmas.proofs.Booleans.{of-either}
 use Rattle.geometry.specs.declared.Extent.{Extent}
 use Rattle.entries.specs.declared.decoding.Entry.{Entry}
 use Rattle.lists.specs.Cursors.{fetchedOf}
 use Rattle.lists.specs.declared.cursors.Cursor.{Cursor}
 use Rattle.lists.specs.declared.cursors.Next.{Next}
 use Rattle.lists.specs.declared.cursors.Next.the-variants.{Ended, Visit, Take, Broken}
-use Rattle.tiles.specs.Tiles.{rowOf, tileOf, noRow, pixelOf, wholeAt, blankRow, noFill, filledWith, fillOf, Sized}
-use Rattle.tiles.specs.declared.Row.{Row}
-use Rattle.tiles.specs.declared.Fill.{Fill}
-use Rattle.tiles.proofs.Pixels.{pixels-of-whole}
-use Rattle.commands.specs.Visits.{commandIn}
-use Rattle.commands.specs.Hatching.{hatches}
 use Rattle.commands.specs.Steps.{Scene, visitBy, visitOf, takenOf, advancedOf}
 use Rattle.slots.specs.Slots.{areaOf, lentOk, slotOf}
 use Rattle.answers.specs.Reports.{Report}
@@ -42,50 +33,13 @@ use Rattle.board.proofs.Keeps.{settled-fill}
 use Rattle.board.proofs.Feeds.{feed-board}
 use Rattle.board.proofs.Imports.{export-board}
 use Rattle.pramolyt.specs.FillImage.{Kept}
+use Rattle.pramolyt.proofs.TakenTiles.{none-kept, taken-kept}
 use Rattle.statements.specs.Paper.{Call, post, store, write, run, feed, import, export}
 use Rattle.statements.specs.World.{World, world, Called, called}
 use Rattle.statements.specs.Images.{AllBytes, BytesIn}
 use Rattle.statements.specs.SolidLines.{Bytes}
 use Rattle.statements.proofs.Posting.{by-slot}
 use Rattle.statements.proofs.Bytes.{visit-bytes}
-
--- ---- a fill, taken or none
-pub none-kept : Kept noFill
-none-kept =
-    record {
-      sized = record { rows = refl; pixels = λ j h. ap (λ (r : Row). length (r .pixels)) (getD-replicate 8 j blankRow noRow h) };
-      bytes = λ x y.
-          let zero : pixelOf (noFill .tile) x y ≡ 0 =
-          ap (λ (r : Row). getD (r .pixels) (x % 16) 0) (getD-replicate 8 (y % 8) blankRow noRow (omega arith))
-          ∙ getD-replicate 16 (x % 16) 0 0 (omega arith) in
-          omega (arith, zero);
-      none = λ h. refl;
-    }
-
-tile-sized : (buffer : List ℕ) (width at : ℕ) → Sized (tileOf buffer width at)
-tile-sized buffer width at =
-    let f : ℕ → Row = λ j. rowOf buffer (at + j * width) in
-    record {
-      rows = map-below-length f 8;
-      pixels = λ j h.
-          ap (λ (r : Row). length (r .pixels)) (map-below-at f 8 noRow j h) ∙ map-below-length (λ i. getD buffer (at + j * width + i) 0) 16;
-    }
-
-taken-kept : (extent : Extent) (corner : ℕ) (buffer : List ℕ) → AllBytes buffer → Kept (fillOf extent corner buffer)
-unfolding fillOf
-taken-kept extent corner buffer h =
-    let f = filledWith (tileOf buffer (extent .width) (placeIn (extent .width) (pointOf corner))) in
-    by-cases (wholeAt extent corner)
-    (λ t.
-    let is = first-of (wholeAt extent corner) f noFill t in
-    subst Kept is
-    (record {
-      sized = tile-sized buffer (extent .width) (placeIn (extent .width) (pointOf corner));
-      bytes = λ x y.
-          subst (λ n. n < 256) (sym (ap (λ (f : Fill). pixelOf (f .tile) x y) is ∙ pixels-of-whole extent corner buffer x y t .1)) (h _);
-      none = λ e. absurd (false≢true (sym e));
-    }))
-    (λ t. subst Kept (second-of (wholeAt extent corner) f noFill t) none-kept)
 
 -- ---- a scene, step by step
 record Sound (s : Scene) : Type 0 where
@@ -106,11 +60,7 @@ take-sound extent s entry h =
     let b = h .bytes in
     record {
       bytes = record { display-bytes = b .display-bytes; virt-bytes = b .virt-bytes };
-      kept =
-          of-either Kept (hatches e)
-          (taken-kept extent (e .registers .xy0) (cond (commandIn e .«from_virtual») (s .virt) (s .display))
-          (of-either AllBytes (commandIn e .«from_virtual») (b .virt-bytes) (b .display-bytes)))
-          none-kept;
+      kept = taken-kept extent e (s .display) (s .virt) (b .display-bytes) (b .virt-bytes);
     }
 
 -- ---- a run

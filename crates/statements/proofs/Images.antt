@@ -30,7 +30,8 @@ use Rattle.statements.specs.Paper.{Call, post, store, write, run, feed, 
 use Rattle.statements.specs.World.{World, world, Called, called, answersTo}
 use Rattle.statements.specs.Demand.{Throughout}
 use Rattle.statements.specs.Images.{Caller, caller, Returned, returned, worldIn, returnsTo, BytesThroughout, Demand3InC}
-use Rattle.statements.proofs.Fills.{none-kept, Typed, call-typed}
+use Rattle.pramolyt.proofs.TakenTiles.{none-kept}
+use Rattle.statements.proofs.Fills.{Typed, call-typed}
 use Rattle.statements.proofs.Sequence.{demand3}
 
 -- a world, and what a call answers, with the image in place of the record

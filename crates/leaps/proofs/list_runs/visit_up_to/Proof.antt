@@ -1,6 +1,6 @@
 -- The lesser of the budget and of what is left, at least 1, is a number of visits before each of which the command is
 -- under way (`burst-done`).
-use Rattle.leaps.proofs.Hatched.{burst-done}
+use Rattle.leaps.proofs.Running.{burst-done}
 use native.Mathlib.Omega.{arith}
 use Prim.Native.Nat.{_-_, max}
 use mathlib.Core.Path.{_≡_, ap, _∙_}
@@ -28,8 +28,8 @@ left-is c =
     let start = c .before .before .before .before .before in
     c .max .ensures ∙ ap (max 1) (c .before .saturating-sub .ensures ∙ ap (λ n. n - start .args .e .visited) (start .pre .2))
 
-visit-counted-requires : tie.Need-visit-counted-requires
-visit-counted-requires c κs =
+visit-rest-requires : tie.Need-visit-rest-requires
+visit-rest-requires c κs =
     let few = c .before .before in
     let start = few .before .before .before .before .before .before in
     let left = left-is (few .before) in
@@ -48,7 +48,7 @@ returns c =
     let start = few .before .before .before .before .before .before in
     let s = start .args in
     burst-done (s .budget) (s .extent) (s .e) (s .display .now) (s .virt .now) _ _ (start .pre .0) (start .pre .1) (left-is (few .before))
-    (few .min .ensures) _ _ _ (done .visit-counted .ensures)
+    (few .min .ensures) _ _ _ (done .visit-rest .ensures)
 
 pub visit-up-to-spec : {M : Type 1} → statement M
 visit-up-to-spec =
@@ -58,7 +58,7 @@ visit-up-to-spec =
     saturating-sub-requires
     max-requires
     min-requires
-    visit-counted-requires
+    visit-rest-requires
     same-length
     same-length-2
     returns)

@@ -7,7 +7,7 @@ use borrow.Author.Needs.{needs}
 use lib.ListN.{length}
 use Rattle.commands.specs.Steps.{scene, visitsOf}
 use Rattle.commands.proofs.Visiting.{visits-none, visits-more}
-use Rattle.leaps.proofs.Hatched.{visited-by, with-fill}
+use Rattle.leaps.proofs.Hatching.{visited-by, with-fill}
 use Rattle.leaps.proofs.visits.visit_each.Statement.{statement}
 use Rattle.leaps.proofs.visits.visit_each.Tie as tie
 

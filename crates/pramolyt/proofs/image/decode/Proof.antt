@@ -2,43 +2,14 @@ use borrow.Author.Needs.{needs}
 use Rattle.pramolyt.proofs.image.decode.Statement.{statement}
 use Rattle.pramolyt.proofs.image.decode.Tie as tie
 
-sizes-in-requires : tie.Need-sizes-in-requires
-sizes-in-requires c κs = search needs
-
-slot-in-requires : tie.Need-slot-in-requires
-slot-in-requires c κs = search needs
-
-slot-in-requires-2 : tie.Need-slot-in-requires-2
-slot-in-requires-2 c κs = search needs
-
-engine-in-requires : tie.Need-engine-in-requires
-engine-in-requires c κs = search needs
-
-array-read-t11 : tie.Need-array-read-t11
-array-read-t11 c = search needs
+decode-bare-requires : tie.Need-decode-bare-requires
+decode-bare-requires c κs = search needs
 
 fill-in-requires : tie.Need-fill-in-requires
 fill-in-requires c κs = search needs
 
 returns : tie.Need-returns
-returns c =
-    let active = c .before .before .before .before in
-    rw (
-      active .before .sizes-in .ensures,
-      active .slot-in .ensures,
-      c .before .before .slot-in2 .ensures,
-      c .before .engine-in .ensures,
-      c .fill-in .ensures,
-    )
+returns c = rw (c .before .before .before .before .before .decode-bare .ensures, c .fill-in .ensures)
 
 pub decode-spec : {M : Type 1} → statement M
-decode-spec =
-    tie.close
-    (tie.spec
-    sizes-in-requires
-    slot-in-requires
-    slot-in-requires-2
-    engine-in-requires
-    array-read-t11
-    fill-in-requires
-    returns)
+decode-spec = tie.close (tie.spec decode-bare-requires fill-in-requires returns)
