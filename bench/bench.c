@@ -45,12 +45,20 @@ enum goal_number {
     SMEARS, /* copies that read what they wrote */
     SOLID_LINES,
     CLIPPED_LINES,
+    LEVEL_LINES, /* horizontal ones */
+    SHORT_LINES,
     DASHED_LINES,
-    SMALL_BLITS,
-    STIPPLES, /* one bit a pixel: glyphs too */
+    SHORT_DASHES,
+    SMALL_FILLS,
+    SMALL_COPIES,
+    SMALL_KEYED,
+    STIPPLES, /* one bit a pixel */
+    GLYPHS,
+    WIDE_GLYPHS,
     HIDDEN,   /* blits of which 1 % shows */
     TILES,
     SMALL_TILES,
+    WRITTEN, /* register writes */
     MEMSET,
     MEMCPY,
     GOALS
@@ -621,7 +629,7 @@ static void set_extent(struct work *w, enum extent extent)
     w->height = heights[extent];
     w->commands = extent >= SMALL ? sizes.small_blits : 1;
     w->scattered = extent >= SMALL;
-    w->goal = extent == SMALL ? SMALL_BLITS : FILLS;
+    w->goal = extent == SMALL ? SMALL_FILLS : FILLS;
     snprintf(w->size, sizeof w->size, "%" PRId32 " x %" PRId32, w->width, w->height);
 }
 
@@ -681,6 +689,8 @@ static void add_copy(const struct move *move, enum extent extent, int variant)
     w->clip = variant == CLIPPED;
     if (extent != SMALL)
         w->goal = smears(move) ? SMEARS : w->keyed ? KEYED_COPIES : COPIES;
+    else
+        w->goal = smears(move) ? SMEARS : w->keyed ? SMALL_KEYED : SMALL_COPIES;
     if (variant == CODE_3 && (move->from_virtual || move->y != 0)) {
         w->yardstick = BY_MEMCPY;
         w->yardstick_goal = extent == LARGE ? MEMCPY : NO_GOAL;
@@ -736,7 +746,7 @@ static void add_stipple(enum extent extent, uint32_t code, bool transparent, int
     w->unaligned = way == UNALIGNED;
     w->clip = way == UNDER_CLIP;
     w->direction = way == LEFTWARDS ? 2 : 0;
-    w->goal = STIPPLES;
+    w->goal = extent < SMALL ? STIPPLES : w->width == 8 ? GLYPHS : WIDE_GLYPHS;
 }
 
 static void add_plain_stipples(enum extent extent)
@@ -799,21 +809,21 @@ static void add_solid_lines(bool is_long)
 {
     for (enum angle angle = ANY; angle <= DIAGONAL; angle++) {
         struct work *w = add_line("line %s code 3", angle, is_long);
-        w->goal = is_long ? SOLID_LINES : NO_GOAL;
+        w->goal = !is_long ? SHORT_LINES : angle == HORIZONTAL ? LEVEL_LINES : SOLID_LINES;
         w = add_line("line %s code 6", angle, is_long);
         w->code = 6;
-        w->goal = is_long ? SOLID_LINES : NO_GOAL;
+        w->goal = !is_long ? SHORT_LINES : angle == HORIZONTAL ? LEVEL_LINES : SOLID_LINES;
         w = add_line("line %s code 3 clip", angle, is_long);
         w->clip = true;
-        w->goal = is_long ? CLIPPED_LINES : NO_GOAL;
+        w->goal = !is_long ? SHORT_LINES : angle == HORIZONTAL ? LEVEL_LINES : CLIPPED_LINES;
         w = add_line("line %s code 6 clip", angle, is_long);
         w->code = 6;
         w->clip = true;
-        w->goal = is_long ? CLIPPED_LINES : NO_GOAL;
+        w->goal = !is_long ? SHORT_LINES : angle == HORIZONTAL ? LEVEL_LINES : CLIPPED_LINES;
     }
     struct work *w = add_line("PLINE %s code 3", ANY, is_long);
     w->polyline = true;
-    w->goal = is_long ? SOLID_LINES : NO_GOAL;
+    w->goal = is_long ? SOLID_LINES : SHORT_LINES;
 }
 
 static void add_dashed(enum angle angle, bool is_long, uint32_t scale, bool transparent, bool clip)
@@ -826,7 +836,7 @@ static void add_dashed(enum angle angle, bool is_long, uint32_t scale, bool tran
     w->scale = scale;
     w->transparent = transparent;
     w->clip = clip;
-    w->goal = DASHED_LINES;
+    w->goal = is_long ? DASHED_LINES : SHORT_DASHES;
 }
 
 static void add_dashed_lines(bool is_long)
@@ -882,6 +892,7 @@ static void add_works(void)
     add_dashed_lines(true);
     add_dashed_lines(false);
     struct work *w = add(WRITES, "register writes (Mentries/s)");
+    w->goal = WRITTEN;
     w->commands = sizes.writes;
     snprintf(w->size, sizeof w->size, "%" PRId32, w->commands);
 }
@@ -987,12 +998,20 @@ static struct goal goals[GOALS] = {
     [SMEARS] = {"copies that read what they wrote", 0.8, 0, 0, 1e9, 0},
     [SOLID_LINES] = {"solid lines of 500", 0.85, 0, 0, 1e9, 0},
     [CLIPPED_LINES] = {"solid lines of 500 under a clip", 0.8, 0, 0, 1e9, 0},
-    [DASHED_LINES] = {"dashed lines", 0.7, 0, 0, 1e9, 0},
-    [SMALL_BLITS] = {"10 x 10", 0.65, 0, 0, 1e9, 0},
-    [STIPPLES] = {"glyphs and stipples", 0.7, 0, 0, 1e9, 0},
+    [LEVEL_LINES] = {"horizontal lines of 500", 0.8, 0, 0, 1e9, 0},
+    [SHORT_LINES] = {"solid lines of 10", 0.75, 0, 0, 1e9, 0},
+    [DASHED_LINES] = {"dashed lines of 500", 0.7, 0, 0, 1e9, 0},
+    [SHORT_DASHES] = {"dashed lines of 10", 0.7, 0, 0, 1e9, 0},
+    [SMALL_FILLS] = {"fills, 10 x 10", 0.9, 0, 0, 1e9, 0},
+    [SMALL_COPIES] = {"copies, 10 x 10", 0.8, 0, 0, 1e9, 0},
+    [SMALL_KEYED] = {"copies with KEY, 10 x 10", 0.7, 0, 0, 1e9, 0},
+    [STIPPLES] = {"stipples, 500 x 500", 0.7, 0, 0, 1e9, 0},
+    [GLYPHS] = {"glyphs, 8 x 16", 0.85, 0, 0, 1e9, 0},
+    [WIDE_GLYPHS] = {"glyphs, 16 x 16", 0.8, 0, 0, 1e9, 0},
     [HIDDEN] = {"2048 x 2048 of which 1 % shows", 1.0, 0, 0, 1e9, 0},
     [TILES] = {"tiles, 500 x 500", 0.8, 0, 0, 1e9, 0},
-    [SMALL_TILES] = {"tiles, 10 x 10", 0.65, 0, 0, 1e9, 0},
+    [SMALL_TILES] = {"tiles, 10 x 10", 0.8, 0, 0, 1e9, 0},
+    [WRITTEN] = {"register writes", 0.5, 0, 0, 1e9, 0},
     [MEMSET] = {"fills of 2000 x 2000, to memset", 0.7, 0, 0, 1e9, 0},
     [MEMCPY] = {"copies of 2000 x 2000, to memcpy", 0.7, 0, 0, 1e9, 0},
 };
