@@ -1,9 +1,12 @@
 // What a call answers (document 01, What the host hears).
+
+#![tactic(auto)]
+
 ghost use Rattle.std.specs.Prelude.{◌≡◌};
 ghost use Rattle.answers.specs.Reports.{report_of};
 
 // The outcome of a call, with what belongs to it.
-#[derive(Drop)]
+#[derive(Clone, Copy)]
 pub enum Status {
     // Done, with the steps of a run.
     Done(u64),

@@ -110,7 +110,7 @@ pub(crate) fn narrow_apart(
 }
 
 // A bit by its byte, and its place in that byte from the most significant on.
-#[derive(Drop)]
+#[derive(Clone, Copy)]
 pub struct BitPlace {
     pub byte: usize,
     pub bit: usize,

@@ -1,6 +1,9 @@
 // Many pixels of a blit at once, row by row (document 01, Pixels): which of them are visible (ranges.rt), where they lie
 // (places.rt), and the loops over rows (row_loops.rt). Where the source is bits: its loops (bit_loops.rt), one row (bits.rt),
 // and the pixels of one byte (eights.rt). Where it is a tile: tiled.rt.
+
+#![tactic(auto)]
+
 mod bit_loops;
 mod bits;
 mod eights;
@@ -27,7 +30,7 @@ use stipples::Stipple;
 pub use tiled::{Tiling, draw_tiled};
 
 // What a blit is painted from: a pen, bytes or bits of the other buffer, or those of the buffer that is drawn on.
-#[derive(Drop)]
+#[derive(Clone, Copy)]
 pub enum Paint {
     Solid(Pen),
     Copied(Mix),
@@ -38,7 +41,7 @@ pub enum Paint {
 
 // A blit from corner to corner, by register words, on buffers of width x height pixels. What it is painted with comes first: so
 // it is stored a while before it is read.
-#[derive(Drop)]
+#[derive(Clone, Copy)]
 pub struct Blit {
     pub paint: Paint,
     pub width: u32,

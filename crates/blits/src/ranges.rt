@@ -9,14 +9,14 @@ use geometry::{ORIGIN, Window, point_of};
 use numbers::{max, min, saturating_sub};
 
 // Columns or rows from <= j < past.
-#[derive(Drop)]
+#[derive(Clone, Copy)]
 pub struct Range {
     pub from: usize,
     pub past: usize,
 }
 
 // The columns and the rows of a blit that are visible.
-#[derive(Drop)]
+#[derive(Clone, Copy)]
 pub struct Visible {
     pub columns: Range,
     pub rows: Range,

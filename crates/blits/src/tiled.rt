@@ -18,7 +18,7 @@ use rows::{Mix, tile_row};
 use tiles::{Tile, put_twice};
 
 // A blit from a tile to a corner, by register words, on a buffer of width x height pixels.
-#[derive(Drop)]
+#[derive(Clone, Copy)]
 pub struct Tiling {
     pub selectors: Selectors,
     pub width: u32,

@@ -4,14 +4,14 @@ use answers::Status;
 use feeds::Feed;
 
 // The outcome, and the record that is handed back.
-#[derive(Drop)]
+#[derive(Clone, Copy)]
 pub struct Answer {
     pub status: Status,
     pub board: Board,
 }
 
 // The outcome of a feed, and both records.
-#[derive(Drop)]
+#[derive(Clone, Copy)]
 pub struct FeedAnswer {
     pub status: Status,
     pub board: Board,
@@ -19,7 +19,7 @@ pub struct FeedAnswer {
 }
 
 // The outcome of an export, the record, and the bytes written.
-#[derive(Drop)]
+#[derive(Clone, Copy)]
 pub struct ExportAnswer {
     pub status: Status,
     pub board: Board,

@@ -14,7 +14,7 @@ use lists::{Cursor, Span};
 use slots::{Active, Sizes, Slot};
 
 // A record with no tile held. Where a fill with a tile is under way, its tile is the one that stands in the buffers.
-#[derive(Drop)]
+#[derive(Clone, Copy)]
 pub struct Bare {
     pub sizes: Sizes,
     pub active: Active,
@@ -24,7 +24,7 @@ pub struct Bare {
 
 // What a run of one answers. It may be cut before a fill with a tile whose last pixel the budget does not reach: the rest of the budget
 // is then not spent.
-#[derive(Drop)]
+#[derive(Clone, Copy)]
 pub struct BareAnswer {
     pub status: Status,
     pub bare: Bare,
@@ -32,7 +32,7 @@ pub struct BareAnswer {
 }
 
 // Steps of the active list: the record after them, and whether an illegal entry ended them within the budget.
-#[derive(Drop)]
+#[derive(Clone, Copy)]
 pub struct Leap {
     pub bare: Bare,
     pub steps: u64,

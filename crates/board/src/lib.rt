@@ -1,4 +1,7 @@
 // The board record and the host's calls (document 01, What the engine has, What the host hears, and Steps).
+
+#![tactic(auto)]
+
 mod answer;
 mod bare;
 mod calls;

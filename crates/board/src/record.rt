@@ -6,7 +6,7 @@ use commands::Engine;
 use slots::{Active, Sizes, Slot};
 use tiles::Fill;
 
-#[derive(Drop)]
+#[derive(Clone, Copy)]
 pub struct Board {
     pub sizes: Sizes,
     pub active: Active,

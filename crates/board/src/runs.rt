@@ -10,7 +10,7 @@ use crate::record::Board;
 use answers::Status;
 
 // What the steps of a held fill answer, and whether the run ends with them.
-#[derive(Drop)]
+#[derive(Clone, Copy)]
 pub struct HatchAnswer {
     pub status: Status,
     pub board: Board,

@@ -1,5 +1,8 @@
 // One command on the two picture buffers: what it visits, and what one step does (document 01, Steps and Pixels). Lists
 // and slots are not known here.
+
+#![tactic(auto)]
+
 mod hatching;
 mod steps;
 mod visits;
@@ -12,7 +15,7 @@ use geometry::Extent;
 use registers::{Pattern, Registers, state_ok};
 
 // What a step uses besides lists and buffers. `last` is the last point, as XY1's word.
-#[derive(Drop)]
+#[derive(Clone, Copy)]
 pub struct Engine {
     pub under_way: bool,
     pub visited: u32,

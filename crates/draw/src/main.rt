@@ -1,5 +1,8 @@
 // Document 01's program: entries on standard input are posted on a zeroed 8 by 4 board and run; the answer, the steps and
 // the display's rows are printed.
+
+#![tactic(auto)]
+
 use answers::Status;
 use board::{Answer, Board};
 use libc::{STDIN_FILENO, STDOUT_FILENO};

@@ -3,14 +3,14 @@ ghost use Rattle.std.specs.Prelude.{◌≡◌};
 ghost use Rattle.entries.specs.Layout.{joined, decoded_of, word_at};
 
 // Register number, the three bits below it, and data.
-#[derive(Drop)]
+#[derive(Clone, Copy)]
 pub struct Entry {
     pub register: u32,
     pub spare: u32,
     pub word: u32,
 }
 
-#[derive(Drop)]
+#[derive(Clone, Copy)]
 pub enum Decoded {
     Whole(Entry),
     // List memory has no such place.

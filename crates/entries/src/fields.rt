@@ -3,7 +3,7 @@ ghost use Rattle.std.specs.Prelude.{◌≡◌};
 ghost use Rattle.entries.specs.Fields.{command_of, is_blit, is_polyline, is_line, draws, is_trigger, length_of, pattern_control_of};
 
 // CMD, its flags by the manual's names; from_virtual and to_virtual are source and destination.
-#[derive(Drop)]
+#[derive(Clone, Copy)]
 pub struct Command {
     pub opcode: u32,
     pub code: u8,
@@ -77,7 +77,7 @@ pub fn is_trigger(register: u32) -> bool
 }
 
 // PCTRL: the pattern's length in bits, how often each bit is repeated, and the place and repeat at which it starts.
-#[derive(Drop)]
+#[derive(Clone, Copy)]
 pub struct PatternControl {
     pub length: u32,
     pub scale: u32,

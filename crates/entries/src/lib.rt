@@ -1,4 +1,7 @@
 // The entries of a display list: their layout, the fields of their data, and which are legal (document 01, Entry layout).
+
+#![tactic(auto)]
+
 mod decoding;
 mod fields;
 mod legality;

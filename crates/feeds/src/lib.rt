@@ -1,4 +1,7 @@
 // Lists over the serial line (document 02, R-5): bytes cut at odd places become stores of the entries that they complete.
+
+#![tactic(auto)]
+
 ghost use Rattle.std.specs.Prelude.{◌≡◌};
 ghost use Rattle.feeds.specs.Feeds.{start_at, feed_ok};
 
@@ -9,7 +12,7 @@ pub use pieces::feed_into;
 use slots::Sizes;
 
 // The next list entry, and up to four held bytes of an unfinished one; the unused bytes are zero.
-#[derive(Drop)]
+#[derive(Clone, Copy)]
 pub struct Feed {
     pub next: u64,
     pub held: [u8; 4],
@@ -17,7 +20,7 @@ pub struct Feed {
 }
 
 // What a feed answers, and the feed record after it.
-#[derive(Drop)]
+#[derive(Clone, Copy)]
 pub struct FeedResult {
     pub status: Status,
     pub feed: Feed,

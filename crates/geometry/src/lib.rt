@@ -1,5 +1,8 @@
 // Where pixels lie: coordinates, the clip rectangle, the place of a pixel in its buffer, and the pixels that a line and
 // a blit visit (document 01, Entry layout and Pixels).
+
+#![tactic(auto)]
+
 mod visible;
 
 ghost use Rattle.std.specs.Prelude.{◌≡◌, ◌<◌, ◌≤◌, eqb};
@@ -14,14 +17,14 @@ pub use visible::{Range, visible_count, visible_index};
 // Coordinates are held 98,304 up: this is the coordinate 0.
 pub const ORIGIN: usize = 98304;
 
-#[derive(Drop)]
+#[derive(Clone, Copy)]
 pub struct Point {
     pub x: usize,
     pub y: usize,
 }
 
 // The size of a picture buffer, in pixels.
-#[derive(Drop)]
+#[derive(Clone, Copy)]
 pub struct Extent {
     pub width: u32,
     pub height: u32,
@@ -45,7 +48,7 @@ pub fn point_of(word: u32) -> Point
 }
 
 // A rectangle by its corners, both inside.
-#[derive(Drop)]
+#[derive(Clone, Copy)]
 pub struct Rect {
     pub left: usize,
     pub top: usize,
@@ -76,7 +79,7 @@ impl Rect {
 }
 
 // The part of a buffer that clip and buffer let through: left <= x < right and top <= y < bottom.
-#[derive(Drop)]
+#[derive(Clone, Copy)]
 pub struct Window {
     pub left: usize,
     pub right: usize,
@@ -116,7 +119,7 @@ pub fn window_of(extent: Extent, clip: bool, top_left: u32, bottom_right: u32) -
 }
 
 // A pixel's place in its buffer.
-#[derive(Drop)]
+#[derive(Clone, Copy)]
 pub enum Place {
     At(usize),
     Outside,
@@ -144,7 +147,7 @@ pub fn place_of(extent: Extent, p: Point) -> Place
 }
 
 // Where visit k of a command lies.
-#[derive(Drop)]
+#[derive(Clone, Copy)]
 pub enum Visit {
     At(Point),
     // The command has no more than k pixels.
@@ -209,7 +212,7 @@ pub fn blit_count(size: u32) -> usize
 }
 
 // Where a visit lies in the rectangle of a blit: column and row, counted from the corner.
-#[derive(Drop)]
+#[derive(Clone, Copy)]
 pub enum Cell {
     At(u32, u32),
     // The blit has no such visit.

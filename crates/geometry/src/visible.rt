@@ -7,13 +7,13 @@ use crate::{Window, blit_count, point_of};
 use numbers::{min, saturating_sub};
 
 // Columns or rows by their numbers, counted from the corner: `from` to the one before `past`.
-#[derive(Drop)]
+#[derive(Clone, Copy)]
 pub struct Range {
     pub from: usize,
     pub past: usize,
 }
 
-#[derive(Drop)]
+#[derive(Clone, Copy)]
 pub struct Part {
     pub columns: Range,
     pub rows: Range,

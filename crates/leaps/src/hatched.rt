@@ -105,7 +105,7 @@ fn visit_hatched(
 }
 
 // The engine after a number of steps.
-#[derive(Drop)]
+#[derive(Clone, Copy)]
 pub struct Burst {
     pub engine: Engine,
     pub steps: u64,

@@ -34,7 +34,7 @@ fn visit_up_to(
 }
 
 // Steps of a list: the engine and the list after them.
-#[derive(Drop)]
+#[derive(Clone, Copy)]
 pub struct Progress {
     pub engine: Engine,
     pub cursor: Cursor,
@@ -42,7 +42,7 @@ pub struct Progress {
 }
 
 // An entry's word in its register, and whether it is legal there.
-#[derive(Drop)]
+#[derive(Clone, Copy)]
 pub struct Put {
     pub engine: Engine,
     pub legal: bool,
@@ -347,7 +347,7 @@ fn buffers_fit(extent: Extent, display: usize, virt: usize) -> bool
 }
 
 // The same, and whether an illegal entry ended them within the budget.
-#[derive(Drop)]
+#[derive(Clone, Copy)]
 pub struct ListRun {
     pub engine: Engine,
     pub cursor: Cursor,

@@ -116,7 +116,7 @@ pub(crate) fn stretch(e: Engine, window: Window, count: usize, n: usize) -> Rang
 }
 
 // Pixels visited at once: how many, whether none is left, and the pattern after them.
-#[derive(Drop)]
+#[derive(Clone, Copy)]
 pub struct Visits {
     pub pattern: Pattern,
     pub steps: u64,

@@ -6,7 +6,7 @@ use crate::spans::Span;
 use entries::Entry;
 
 // A list and its next entry.
-#[derive(Drop)]
+#[derive(Clone, Copy)]
 pub struct Cursor {
     pub span: Span,
     pub next: u32,
@@ -36,7 +36,7 @@ impl Cursor {
 }
 
 // What the next step of a list is. A run does many at once and names none; the definitions do.
-#[derive(Drop)]
+#[derive(Clone, Copy)]
 pub enum Next {
     // None: nothing of the list is left.
     Ended,

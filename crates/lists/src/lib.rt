@@ -1,5 +1,8 @@
 // A display list in list memory: its span, the first entry of it that is illegal, the places that it holds, and where a run
 // stands in it (document 01, What the engine has, and Steps). Slots and drawing are not known here.
+
+#![tactic(auto)]
+
 mod cursors;
 mod spans;
 

@@ -6,7 +6,7 @@ use entries::legal_at;
 use numbers::saturating_sub;
 
 // Start entry and count.
-#[derive(Drop)]
+#[derive(Clone, Copy)]
 pub struct Span {
     pub start: u32,
     pub count: u32,
@@ -45,7 +45,7 @@ impl Span {
 }
 
 // The place of a list's first illegal entry.
-#[derive(Drop)]
+#[derive(Clone, Copy)]
 pub enum Illegal {
     At(usize),
     Nowhere,

@@ -1,4 +1,7 @@
 // The smaller and the larger of two numbers, and a difference that is never below 0.
+
+#![tactic(auto)]
+
 ghost use Rattle.std.specs.Prelude.{◌≡◌, ◌-◌, min, max};
 
 pub fn min(a: usize, b: usize) -> usize

@@ -5,7 +5,7 @@ ghost use Rattle.packing.specs.Groups.{word_at, group_of, closing_of, count_of};
 use entries::{Entry, join};
 
 // The zero bit, and three entries.
-#[derive(Drop)]
+#[derive(Clone, Copy)]
 pub(crate) struct Group {
     pub zero: u32,
     pub first: Entry,

@@ -3,7 +3,7 @@ ghost use Rattle.std.specs.Prelude.{◌≡◌};
 ghost use Rattle.packing.specs.Reports.{report_of};
 
 // The outcome of a conversion, with what belongs to it.
-#[derive(Drop)]
+#[derive(Clone, Copy)]
 pub enum FileStatus {
     // Done, with the bytes written.
     Done(usize),

@@ -5,7 +5,7 @@ ghost use Rattle.pictures.specs.Texts.{is_white, is_digit, ends_comment, says_si
 ghost use Rattle.pictures.specs.Readers.{wanted_of, Longer, Follows, accepts};
 
 // How far the numbers of a header are read, comments left out.
-#[derive(Drop)]
+#[derive(Clone, Copy)]
 pub(crate) enum Stage {
     Start,
     // White space before number k: 0 the width, 1 the height, 2 the greatest grey.
@@ -17,7 +17,7 @@ pub(crate) enum Stage {
 }
 
 // The same, and whether a comment is open.
-#[derive(Drop)]
+#[derive(Clone, Copy)]
 pub(crate) struct Reader {
     pub comment: bool,
     pub stage: Stage,

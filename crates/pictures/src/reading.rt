@@ -7,7 +7,7 @@ use crate::headers::{is_white, says_size};
 use crate::sizes::area;
 
 // The outcome of reading a picture.
-#[derive(Drop)]
+#[derive(Clone, Copy)]
 pub enum ReadStatus {
     Done,
     // The buffer is not width x height.
@@ -17,7 +17,7 @@ pub enum ReadStatus {
 }
 
 // Where the pixels of a picture start.
-#[derive(Drop)]
+#[derive(Clone, Copy)]
 pub(crate) enum Raster {
     From(usize),
     Nowhere,
@@ -56,7 +56,7 @@ pub fn read_picture(picture: &[u8], width: u32, height: u32, buffer: &mut [u8]) 
     }
     match raster_start(picture, width, height) {
         Raster::From(start) => {
-            bytes::copy(&picture[start..], buffer);
+            buffer.copy_from_slice(&picture[start..]);
             ReadStatus::Done
         }
         Raster::Nowhere => ReadStatus::NotAPicture,

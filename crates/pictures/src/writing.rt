@@ -7,7 +7,7 @@ ghost use Rattle.pictures.specs.Writing.{put_at, written_of};
 use crate::sizes::{area, picture_size};
 
 // The outcome of writing a picture.
-#[derive(Drop)]
+#[derive(Clone, Copy)]
 pub enum WriteStatus {
     // Done, with the bytes written.
     Done(usize),
@@ -22,7 +22,9 @@ fn put_bytes(output: &mut [u8], at: usize, source: &[u8]) -> usize
     requires { at + length source.now ≤ length output.old }
     ensures { lent result output.new ≡ put_at output.old at source.now }
 {
-    at + bytes::copy(source, &mut output[at..])
+    let end = at + source.len();
+    output[at..end].copy_from_slice(source);
+    end
 }
 
 // A number in decimal, unpadded, from a place on; the place after it.

@@ -1,6 +1,9 @@
 // The exported C functions, as include/pramolyt.h declares them. The board record is an image of 32-bit words, which
 // the caller keeps; each call answers document 01's number (What the engine has, and What the host hears). Each name ends in
 // the edition of the record and of the arguments: a change of either changes the names, here and in the header.
+
+#![tactic(auto)]
+
 ghost use Rattle.std.specs.Prelude.{◌≡◌};
 ghost use Rattle.pramolyt.specs.Exports.{made, make_image, posted, post_image, changed, store_image, write_image, pictured, export_image, import_image, ran, run_image, feed_of, received, feed_image, filed, pack_file, unpack_file};
 ghost use Rattle.pramolyt.specs.Parts.{holds_in, HatchedImage};
@@ -146,7 +149,7 @@ fn holds(w: [u32; WORDS]) -> bool
 }
 
 // The steps of a held fill: their number, the answer, and whether the run ends with them.
-#[derive(Drop)]
+#[derive(Clone, Copy)]
 struct Hatched {
     steps: u64,
     number: u32,

@@ -1,4 +1,7 @@
 // The new byte of a pixel: raster code, source byte, old byte and plane mask (document 01, Pixels).
+
+#![tactic(auto)]
+
 ghost use Rattle.std.specs.Prelude.{◌≡◌, ◌<◌, ◌-◌, ◌*◌};
 ghost use Rattle.std.specs.Int.Bits.{bit_xor};
 ghost use Rattle.raster.specs.Raster.{new_byte};
@@ -31,7 +34,7 @@ pub fn new_byte(code: u8, source: u8, old: u8, mask: u8) -> u8
 }
 
 // The rule with code, source byte and mask fixed: the new byte is (old & keep) ^ flip.
-#[derive(Drop)]
+#[derive(Clone, Copy)]
 pub struct Pen {
     pub keep: u8,
     pub flip: u8,
@@ -59,7 +62,7 @@ impl Pen {
 
 // The rule with code and mask fixed: the new byte is (s & d & both) ^ (d & old) ^ (s & source) ^ none, for a source byte s
 // and an old byte d.
-#[derive(Drop)]
+#[derive(Clone, Copy)]
 pub struct Selectors {
     pub both: u8,
     pub old: u8,

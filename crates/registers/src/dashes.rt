@@ -6,7 +6,7 @@ ghost use Rattle.registers.specs.Patterns.{start_of, pattern_bit, next_of, moves
 use entries::{PatternControl, pattern_control_of};
 
 // Document 01's pattern state: a place in LPAT and a repeat.
-#[derive(Drop)]
+#[derive(Clone, Copy)]
 pub struct Pattern {
     pub place: u32,
     pub repeat: u32,

@@ -5,7 +5,7 @@ ghost use Rattle.registers.specs.Registers.{fresh_registers, written_of, registe
 use entries::legal_data;
 
 // The registers in the order of their numbers.
-#[derive(Drop)]
+#[derive(Clone, Copy)]
 pub struct Registers {
     pub cmd: u32,
     pub fore: u32,

@@ -1,4 +1,7 @@
 // The register file, and the line pattern's state (document 01, Entry layout and Pixels).
+
+#![tactic(auto)]
+
 mod dashes;
 mod file;
 mod states;

@@ -1,5 +1,8 @@
 // Rows of pixels at once: of one source byte, copied from another buffer, copied within one buffer, and of a tile (tiled.rt);
 // byte by byte (by_bytes.rt), in blocks (by_blocks.rt), or as bytes that nothing is mixed with (unmixed.rt).
+
+#![tactic(auto)]
+
 mod by_blocks;
 mod by_bytes;
 mod tiled;
@@ -19,7 +22,7 @@ use crate::unmixed::{copy_plain, fill_plain, move_plain, move_plain_back};
 use raster::{Pen, Selectors};
 
 // How a source byte is mixed with an old byte: raster code and plane mask as selectors, and KEY.
-#[derive(Drop)]
+#[derive(Clone, Copy)]
 pub struct Mix {
     pub selectors: Selectors,
     pub keyed: bool,

@@ -8,7 +8,7 @@ use answers::Status;
 use pictures::{ReadStatus, WriteStatus, read_picture, write_picture};
 
 // What an export answers, with the bytes written.
-#[derive(Drop)]
+#[derive(Clone, Copy)]
 pub struct Export {
     pub status: Status,
     pub written: usize,

@@ -5,21 +5,21 @@ ghost use Rattle.slots.specs.Slots.{sizes_ok, lent_ok, slot_ok, slot_of, active_
 use geometry::Extent;
 use lists::{Cursor, Span};
 
-#[derive(Drop)]
+#[derive(Clone, Copy)]
 pub struct Sizes {
     pub extent: Extent,
     pub entries: u32,
 }
 
 // The pending slot: a list that has not begun.
-#[derive(Drop)]
+#[derive(Clone, Copy)]
 pub struct Slot {
     pub taken: bool,
     pub span: Span,
 }
 
 // The active slot: the list that runs, and where it stands.
-#[derive(Drop)]
+#[derive(Clone, Copy)]
 pub struct Active {
     pub taken: bool,
     pub cursor: Cursor,

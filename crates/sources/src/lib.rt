@@ -1,5 +1,8 @@
 // The source of a pixel (document 01, Pixels): what a visit draws, from the registers, the line pattern, the tile of a fill and
 // the buffers as they stand. Where the pixel lies is not known here, but for the cell of a blit.
+
+#![tactic(auto)]
+
 ghost use Rattle.std.specs.Prelude.{◌≡◌, get_or};
 ghost use Rattle.sources.specs.Sources.{by_bit, copied_of, stippled_of, read_of, tiled_of, dash_of, source_of};
 
@@ -10,7 +13,7 @@ use registers::{Pattern, Registers};
 use tiles::{Fill, pixel};
 
 // What is drawn at a pixel.
-#[derive(Drop)]
+#[derive(Clone, Copy)]
 pub enum Source {
     Value(u32),
     Nothing,

@@ -1,4 +1,7 @@
 // Pixels from bits (document 02, R-2): the new byte of one pixel, and eight new bytes in a word.
+
+#![tactic(auto)]
+
 ghost use Rattle.std.specs.Prelude.{◌≡◌, ℕ, ◌<◌};
 ghost use Rattle.stipples.specs.Stipples.{bit_in, stippled};
 ghost use Rattle.stipples.specs.Words.{byte_in, eight_of, ones_of, spread_of, zero_pen, inks_of, inked, Bytes};
@@ -6,7 +9,7 @@ ghost use Rattle.stipples.specs.Words.{byte_in, eight_of, ones_of, spread_of, ze
 use raster::Pen;
 
 // What a 1 draws with, and a 0: with `clear` a 0 draws nothing.
-#[derive(Drop)]
+#[derive(Clone, Copy)]
 pub struct Stipple {
     pub fore: Pen,
     pub back: Pen,
@@ -14,7 +17,7 @@ pub struct Stipple {
 }
 
 // The same for eight pixels in a word: what a 0 keeps and flips, and where a 1 differs.
-#[derive(Drop)]
+#[derive(Clone, Copy)]
 pub struct Inks {
     pub keep: u64,
     pub flip: u64,

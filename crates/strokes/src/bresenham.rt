@@ -17,14 +17,14 @@ use registers::Pattern;
 use rows::fill_row;
 
 // The algorithm's state: a pixel's place, and how much the minor axis' error term may grow before it is full.
-#[derive(Drop)]
+#[derive(Clone, Copy)]
 pub(crate) struct Bresenham {
     pub(crate) place: usize,
     pub(crate) slack: usize,
 }
 
 // What a place moves by: ahead and back at each pixel, up and down where the growth leaves no slack, which then gains `wrap`.
-#[derive(Drop)]
+#[derive(Clone, Copy)]
 pub(crate) struct Strides {
     pub(crate) growth: usize,
     pub(crate) wrap: usize,
@@ -79,7 +79,7 @@ impl Bresenham {
 }
 
 // Where a stretch starts, and what it moves by.
-#[derive(Drop)]
+#[derive(Clone, Copy)]
 struct Course {
     start: Bresenham,
     strides: Strides,

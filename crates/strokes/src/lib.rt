@@ -1,4 +1,7 @@
 // Many pixels of a line at once, by an error term and additions.
+
+#![tactic(auto)]
+
 ghost use Rattle.std.specs.Prelude.{◌≡◌, ◌-◌};
 ghost use Rattle.geometry.specs.Coordinates.{point_of};
 ghost use Rattle.strokes.specs.Strokes.{window_fits, stroke_fits, stroke_of, dashed, dashes_of};
@@ -18,7 +21,7 @@ use raster::Pen;
 use registers::Pattern;
 
 // What a dashed line draws with: LPAT, a pen for each of its bits, whether 0 bits draw nothing, and PCTRL's length and scale.
-#[derive(Drop)]
+#[derive(Clone, Copy)]
 pub struct Dashes {
     pub lpat: u32,
     pub fore: Pen,

@@ -9,7 +9,7 @@ use raster::Pen;
 use registers::Pattern;
 
 // A pattern state, and the bits of LPAT from its place on.
-#[derive(Drop)]
+#[derive(Clone, Copy)]
 pub(crate) struct Phase {
     pub(crate) bits: usize,
     place: usize,

@@ -10,7 +10,7 @@ use geometry::{Point, Window, line_steps, point_of};
 use numbers::{max, min};
 
 // Pixels of a line by their numbers, from `start` to the one before `end`.
-#[derive(Drop)]
+#[derive(Clone, Copy)]
 pub(crate) struct Range {
     pub(crate) start: usize,
     pub(crate) end: usize,

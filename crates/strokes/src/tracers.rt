@@ -8,7 +8,7 @@ use geometry::{line_steps, point_of};
 use numbers::{max, min};
 
 // One coordinate of a pixel. The error term grows at each pixel, and the coordinate steps up or down where it is full.
-#[derive(Drop)]
+#[derive(Clone, Copy)]
 pub(crate) struct Stepper {
     pub(crate) coordinate: usize,
     pub(crate) error: usize,
@@ -59,7 +59,7 @@ impl Stepper {
 }
 
 // Both coordinates of a line's pixel; `full` is twice the line's steps.
-#[derive(Drop)]
+#[derive(Clone, Copy)]
 pub(crate) struct Tracer {
     pub(crate) x: Stepper,
     pub(crate) y: Stepper,

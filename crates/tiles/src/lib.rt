@@ -1,5 +1,8 @@
 // Tiles of eight rows of sixteen pixels (document 02, R-7): taken from a buffer, kept by value while a fill runs, and made
 // ready for the rows of the fill.
+
+#![tactic(auto)]
+
 mod taking;
 
 ghost use Rattle.std.specs.Prelude.{◌≡◌, ◌+◌, ◌≤◌, length, get_or};
@@ -8,18 +11,18 @@ ghost use Rattle.tiles.specs.Tiles.{pixel_of, twice_in, no_fill, row_blank, tile
 
 pub use taking::{tile_at, whole_at};
 
-#[derive(Drop)]
+#[derive(Clone, Copy)]
 pub struct Row {
     pub pixels: [u8; 16],
 }
 
-#[derive(Drop)]
+#[derive(Clone, Copy)]
 pub struct Tile {
     pub rows: [Row; 8],
 }
 
 // What a fill draws with: whether its tile was whole, and if so the tile; else zeros.
-#[derive(Drop)]
+#[derive(Clone, Copy)]
 pub struct Fill {
     pub whole: bool,
     pub tile: Tile,

@@ -1,5 +1,8 @@
 // Document 01's example of two lists: one list posted twice and a third time, run in pieces, with a store into its entries
 // before and after it has ended. After the run of 9 steps the first of the two has ended and the second is active.
+
+#![tactic(auto)]
+
 use board::{Answer, Board};
 use libc::STDOUT_FILENO;
 use slots::Slot;

@@ -20,51 +20,51 @@ part : (c : tie.Start) →
     PartFits s.b 0 (height_of s.b.size) 0 (width_of s.b.size) (length s.other.now) (length s.buffer.now)
 part c = let b = c.args.b in whole_part b 0 (blit_count b.size) _ _ c.requires.0 (size_small c) c.requires.1
 
-enum-known-paint : tie.Need-enum-known-paint
+enum-known-paint : tie.Need-enum_known-paint
 enum-known-paint c = search rules
 
-fill-whole-requires : tie.Need-fill-whole-requires
+fill-whole-requires : tie.Need-fill_whole-requires
 fill-whole-requires c κs = search rules
 
-same_length : tie.Need-same-length
+same_length : tie.Need-shape_of-buffer-in-Solid
 same_length c = search rules
 
-returns : tie.Need-returns
+returns : tie.Need-returns-in-Solid
 returns c =
     let done = c.before.before in
     let start = done.before.before.before.before.before.before.before in
     let f = start.requires.1 in
-    done.fill-whole.ensures start.args.other.now (f.other-area ∙ sym f.own-area)
+    done.fill_whole.ensures start.args.other.now (f.other-area ∙ sym f.own-area)
 
-visible-of-requires : tie.Need-visible-of-requires
+visible-of-requires : tie.Need-visible_of-visible-requires
 visible-of-requires c κs = search rules
 
-cast-part : tie.Need-overflow-cast-part
+cast-part : tie.Need-overflow_cast-b
 cast-part c = search rules
 
-part-requires : tie.Need-part-requires
+part-requires : tie.Need-part-columns-requires
 part-requires c κs = search rules
 
-cast-part-2 : tie.Need-overflow-cast-part-2
+cast-part-2 : tie.Need-overflow_cast-b-2
 cast-part-2 c = search rules
 
-part-requires-2 : tie.Need-part-requires-2
+part-requires-2 : tie.Need-part-lines-requires
 part-requires-2 c κs = search rules
 
-paint-box-requires : tie.Need-paint-box-requires
+paint-box-requires : tie.Need-paint_box-requires
 paint-box-requires c κs =
     let lines = c.before in
     let columns = lines.before.before in
     let visible = columns.before.before in
     let start = visible.before.before.before.before in
     let s = start.args in
-    part-fits s.b s.other.now (part start) visible.visible-of.ensures columns.part.ensures lines.part2.ensures
+    part-fits s.b s.other.now (part start) visible.visible_of-visible.ensures columns.part-columns.ensures lines.part-lines.ensures
     (wide start)
 
-same-length-2 : tie.Need-same-length-2
+same-length-2 : tie.Need-shape_of-buffer
 same-length-2 c = search rules
 
-returns-2 : tie.Need-returns-2
+returns-2 : tie.Need-returns
 returns-2 c =
     let done = c.before.before in
     let lines = done.before.before in
@@ -73,11 +73,11 @@ returns-2 c =
     let start = visible.before.before.before.before in
     let s = start.args in
     whole-visits s.b s.other.now _ _
-    (part-visits s.b s.other.now (part start) visible.visible-of.ensures columns.part.ensures lines.part2.ensures _ _
-    done.paint-box.ensures)
+    (part-visits s.b s.other.now (part start) visible.visible_of-visible.ensures columns.part-columns.ensures lines.part-lines.ensures _ _
+    done.paint_box.ensures)
 
-pub draw-whole-spec : {M : Type 1} → statement M
-draw-whole-spec =
+pub draw_whole_spec : {M : Type 1} → statement M
+draw_whole_spec =
     tie.close
     (tie.spec
     enum-known-paint

@@ -10,65 +10,65 @@ use Rattle.sources.proofs.Reading.{key-is, copied-by, read_by}
 use Rattle.sources.proofs.copied.Statement.{statement}
 use Rattle.sources.proofs.copied.Tie as tie
 
-cell-visit-requires : tie.Need-cell-visit-requires
+cell-visit-requires : tie.Need-cell_visit-visit-requires
 cell-visit-requires c κs = search rules
 
-enum-known-visit : tie.Need-enum-known-visit
+enum-known-visit : tie.Need-enum_known-visit
 enum-known-visit c = search rules
 
-enum_told : tie.Need-enum-told
+enum_told : tie.Need-enum_told-1
 enum_told c = search rules
 
-returns : tie.Need-returns
+returns : tie.Need-returns-in_default
 returns c =
     let o = c.before.before in
-    let s = o.before.before.args in
-    copied-by s.c s.g s.extent s.cell s.buffer.now _ _ o.cell-visit.ensures c.enum_told.given.1
+    let s = o.args in
+    copied-by s.c s.g s.extent s.cell s.buffer.now _ _ o.cell_visit-visit.ensures c.in_default.is
 
-place-of-requires : tie.Need-place-of-requires
+place-of-requires : tie.Need-place_of-place-requires
 place-of-requires c κs = search rules
 
-enum-known-place : tie.Need-enum-known-place
+enum-known-place : tie.Need-enum_known-place
 enum-known-place c = search rules
 
-enum-told-2 : tie.Need-enum-told-2
+enum-told-2 : tie.Need-enum_told-in_default-place
 enum-told-2 c = search rules
 
-returns-2 : tie.Need-returns-2
+returns-2 : tie.Need-returns-in_default-place
 returns-2 c =
     let o = c.before.before in
     let found = o.before.before in
     let first = found.before.before in
-    let s = first.before.before.args in
-    read_by s.c s.g s.extent s.buffer.now _ _ _ o.place_of.ensures c.enum-told2.given.1
-    ∙ copied-by s.c s.g s.extent s.cell s.buffer.now _ _ first.cell-visit.ensures found.visit.given.1
+    let s = first.args in
+    read_by s.c s.g s.extent s.buffer.now _ _ _ o.place_of-place.ensures c.in_default-place.is
+    ∙ copied-by s.c s.g s.extent s.cell s.buffer.now _ _ first.cell_visit-visit.ensures found.in-At.is
 
-byte-at-requires : tie.Need-byte-at-requires
+byte-at-requires : tie.Need-byte_at-value-requires
 byte-at-requires c κs = search rules
 
 -- a pixel of the buffer draws its byte, unless that is KEY
-value : (c : tie.After-byte-at) (b : Bool) →
-    let s = c.before.before.before.before.before.before.before.before.before.before.args in
-    let v = c.byte_at.result in
+value : (c : tie.After-byte_at-value) (b : Bool) →
+    let s = c.args in
+    let v = c.byte_at-value.result in
     (s.c.key && eqb v s.g.key) ≡ b → cond b Nothing (Value v) ≡ copied_of s.c s.g s.extent s.cell s.buffer.now
 value c b h =
     let told = c.before.before in
     let o = told.before.before in
     let found = o.before.before in
     let first = found.before.before in
-    let s = first.before.before.args in
-    key-is s.c s.g _ _ c.byte_at.ensures b h
-    ∙ read_by s.c s.g s.extent s.buffer.now _ _ _ o.place_of.ensures told.place.given.1
-    ∙ copied-by s.c s.g s.extent s.cell s.buffer.now _ _ first.cell-visit.ensures found.visit.given.1
+    let s = first.args in
+    key-is s.c s.g _ _ c.byte_at-value.ensures b h
+    ∙ read_by s.c s.g s.extent s.buffer.now _ _ _ o.place_of-place.ensures told.in-At-place.is
+    ∙ copied-by s.c s.g s.extent s.cell s.buffer.now _ _ first.cell_visit-visit.ensures found.in-At.is
 
-returns-3 : tie.Need-returns-3
-returns-3 c = value c.before.before.before true c.if1.true
+returns-3 : tie.Need-returns-then-c-value
+returns-3 c = value c.before.before.before true c.if-c-value.true
 
-returns-4 : tie.Need-returns-4
-returns-4 c = value c.before.before.before false c.if1.false
+returns-4 : tie.Need-returns
+returns-4 c = value c.before.before.before false c.if-c-value.false
 
-pub copied-spec : {M : Type 1} → statement M
-copied-spec =
+pub copied_spec : {M : Type 1} → statement M
+copied_spec =
     tie.close
     (tie.spec
     cell-visit-requires

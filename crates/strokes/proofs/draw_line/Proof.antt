@@ -17,63 +17,63 @@ use Rattle.strokes.proofs.Drawn.{Fit, fit_of, start-in, stretch-of, visible-pixe
 use Rattle.strokes.proofs.draw_line.Statement.{statement}
 use Rattle.strokes.proofs.draw_line.Tie as tie
 
-fit : (c : tie.Else1)
-    → let a = c.before.before.before.args in
+fit : (c : tie.Else-not-stroke_fits)
+    → let a = c.args in
     Fit a.width a.window (point_of a.from) (point_of a.to) a.first a.n (length a.buffer.now)
-fit c = fit_of _ _ _ _ _ _ _ (sym c.before.stroke-fits.ensures ∙ not-false _ c.if1.false)
+fit c = fit_of _ _ _ _ _ _ _ (sym c.stroke_fits.ensures ∙ not-false _ c.if-not-stroke_fits.false-raw)
 
 -- where the ways meet, the range is of the visible pixels
-seen : (c : tie.Joined2)
-    → let a = c.before.before.before.before.before.args in
-    Visible a.window (point_of a.from) (point_of a.to) a.first a.n c.if2.visible
+seen : (c : tie.Joined-ends_visible)
+    → let a = c.args in
+    Visible a.window (point_of a.from) (point_of a.to) a.first a.n c.if-ends_visible.visible
 seen c =
     let e = c.before in
-    ⊎_elim (λ w. rw w.1 (visible-whole _ _ _ _ _ _ (fit e.before).pixels-in e.ends-visible.ensures w.0.taken))
-    (λ w. rw w.2 w.1.ensures) c.if2.branch
+    ⊎_elim (λ w. rw w.1 (visible-whole _ _ _ _ _ _ (fit e.before).pixels-in e.ends_visible.ensures w.0.taken))
+    (λ w. rw w.2 w.1.ensures) c.if-ends_visible.branch
 
-stroke-fits-requires : tie.Need-stroke-fits-requires
+stroke-fits-requires : tie.Need-stroke_fits-requires
 stroke-fits-requires c κs = search rules
 
-returns : tie.Need-returns
-returns c = stroke-unfit _ _ _ _ _ _ _ _ (sym c.before.stroke-fits.ensures ∙ not-true _ c.if1.true)
+returns : tie.Need-returns-then-not-stroke_fits
+returns c = stroke-unfit _ _ _ _ _ _ _ _ (sym c.stroke_fits.ensures ∙ not-true _ c.if-not-stroke_fits.true-raw)
 
-ends-visible-requires : tie.Need-ends-visible-requires
+ends-visible-requires : tie.Need-ends_visible-requires
 ends-visible-requires c κs = search rules
 
-add-t16 : tie.Need-overflow-add-t16
+add-t16 : tie.Need-overflow_add-visible
 add-t16 c =
     let e = c.before.before in
-    let a = e.before.before.before.args in
+    let a = e.args in
     omega (arith, (fit e).pixels-in, steps-lt a.from a.to)
 
-visible-range-requires : tie.Need-visible-range-requires
+visible-range-requires : tie.Need-visible_range-visible-requires
 visible-range-requires c κs = let f = fit c.before.before in (f.steps-in, f.pixels-in)
 
-returns-2 : tie.Need-returns-2
+returns-2 : tie.Need-returns-then-visible
 returns-2 c =
     let q = c.before.before in
-    stroke-fit _ _ _ _ _ _ _ _ _ (fit q.before.before).whole (hidden-pixels _ _ _ _ _ _ (seen q) _ _ _ c.if3.true)
+    stroke-fit _ _ _ _ _ _ _ _ _ (fit q.before.before).whole (hidden-pixels _ _ _ _ _ _ (seen q) _ _ _ c.if-visible.true)
 
-tracer-at-requires : tie.Need-tracer-at-requires
+tracer-at-requires : tie.Need-tracer_at-tracer-requires
 tracer-at-requires c κs =
     let q = c.before.before in
     let f = fit q.before.before in
-    (f.steps-in, start-in _ _ _ _ _ _ (seen q) f.pixels-in c.if3.false)
+    (f.steps-in, start-in _ _ _ _ _ _ (seen q) f.pixels-in c.if-visible.false)
 
-sub-draw-visible : tie.Need-overflow-sub-draw-visible
+sub-draw-visible : tie.Need-overflow_sub-visible
 sub-draw-visible c = search rules
 
-draw-visible-requires : tie.Need-draw-visible-requires
+draw-visible-requires : tie.Need-draw_visible-requires
 draw-visible-requires c κs =
     let t = c.before.before in
     let e = t.before in
     let q = e.before.before in
-    stretch-of _ _ _ _ _ _ _ _ _ (fit q.before.before) (seen q) e.if3.false t.tracer-at.ensures
+    stretch-of _ _ _ _ _ _ _ _ _ (fit q.before.before) (seen q) e.if-visible.false t.tracer_at-tracer.ensures
 
-same_length : tie.Need-same-length
+same_length : tie.Need-shape_of-buffer
 same_length c = search rules
 
-returns-3 : tie.Need-returns-3
+returns-3 : tie.Need-returns
 returns-3 c =
     let d = c.before.before in
     let t = d.before.before.before in
@@ -81,11 +81,11 @@ returns-3 c =
     let q = e.before.before in
     let f = fit q.before.before in
     stroke-fit _ _ _ _ _ _ _ _ _ f.whole
-    (visible-pixels _ _ _ _ _ _ (seen q) _ f.steps-in f.pixels-in e.if3.false t.tracer-at.ensures
-    _ _ _ _ d.draw-visible.ensures)
+    (visible-pixels _ _ _ _ _ _ (seen q) _ f.steps-in f.pixels-in e.if-visible.false t.tracer_at-tracer.ensures
+    _ _ _ _ d.draw_visible.ensures)
 
-pub draw-line-spec : {M : Type 1} → statement M
-draw-line-spec =
+pub draw_line_spec : {M : Type 1} → statement M
+draw_line_spec =
     tie.close
     (tie.spec
     stroke-fits-requires

@@ -12,13 +12,13 @@ bytes c = (search rules, search rules, search rules, search rules)
 draw-requires : tie.Need-draw-requires
 draw-requires c κs = search rules
 
-put-word-requires : tie.Need-put-word-requires
+put-word-requires : tie.Need-put_word-requires
 put-word-requires c κs = search rules
 
-same_length : tie.Need-same-length
+same_length : tie.Need-shape_of-buffer-then-plain
 same_length c = search rules
 
-returns : tie.Need-returns
+returns : tie.Need-returns-then-plain
 returns c =
     let put = c.before.before in
     let drew = put.before in
@@ -26,20 +26,20 @@ returns c =
     let known = told.before in
     let start = known.before in
     let s = start.args in
-    plain-drawn s.s s.inks s.bits _ s.buffer.now _ s.at start.requires.0 (bytes start) (search rules) (start.requires.1 told.if1.true)
-    drew.draw.ensures (λ i. omega (arith, known.slice-known.given i)) put.put_word.ensures
+    plain-drawn s.s s.inks s.bits _ s.buffer.now _ s.at start.requires.0 (bytes start) (search rules) (start.requires.1 told.if-plain.true)
+    drew.draw.ensures (λ i. omega (arith, known.slice_known-1.given i)) put.put_word.ensures
 
-draw-eight-requires : tie.Need-draw-eight-requires
+draw-eight-requires : tie.Need-draw_eight-requires
 draw-eight-requires c κs = search rules
 
-same-length-2 : tie.Need-same-length-2
+same-length-2 : tie.Need-shape_of-buffer
 same-length-2 c = search rules
 
-returns-2 : tie.Need-returns-2
+returns-2 : tie.Need-returns
 returns-2 c = search rules
 
-pub draw-block-spec : {M : Type 1} → statement M
-draw-block-spec =
+pub draw_block_spec : {M : Type 1} → statement M
+draw_block_spec =
     tie.close
     (tie.spec
     draw-requires

@@ -10,16 +10,16 @@ use Rattle.blits.proofs.eights.draw_glyph_byte.Tie as tie
 bytes : (c : tie.Start) → Bytes c.args.s
 bytes c = (search rules, search rules, search rules, search rules)
 
-word-at-requires : tie.Need-word-at-requires
+word-at-requires : tie.Need-word_at-old-requires
 word-at-requires c κs = search rules
 
-draw-by-products-requires : tie.Need-draw-by-products-requires
+draw-by-products-requires : tie.Need-draw_by_products-requires
 draw-by-products-requires c κs = search rules
 
-put-word-requires : tie.Need-put-word-requires
+put-word-requires : tie.Need-put_word-requires
 put-word-requires c κs = search rules
 
-same_length : tie.Need-same-length
+same_length : tie.Need-shape_of-buffer
 same_length c = search rules
 
 returns : tie.Need-returns
@@ -27,12 +27,12 @@ returns c =
     let put = c.before.before in
     let drew = put.before in
     let had = drew.before.before in
-    let start = had.before.before.before in
+    let start = had.before.before in
     let s = start.args in
-    word-drawn s.s s.bits _ _ 8 s.buffer.now _ s.at (lit≤ tt) had.word-at.ensures
-    (drew.draw-by-products.ensures s.s (bytes start) start.requires.0)
+    word-drawn s.s s.bits _ _ 8 s.buffer.now _ s.at (lit≤ tt) had.word_at-old.ensures
+    (drew.draw_by_products.ensures s.s (bytes start) start.requires.0)
     (λ k p q. absurd (omega arith)) put.put_word.ensures
 
-pub draw-glyph-byte-spec : {M : Type 1} → statement M
-draw-glyph-byte-spec =
+pub draw_glyph_byte_spec : {M : Type 1} → statement M
+draw_glyph_byte_spec =
     tie.close (tie.spec word-at-requires draw-by-products-requires put-word-requires same_length returns)

@@ -11,48 +11,48 @@ use Rattle.commands.proofs.Engine.position.Statement.{statement}
 use Rattle.commands.proofs.Engine.position.Tie as tie
 
 -- whether the command in CMD is a blit
-blit : (c : tie.After-is-blit) (b : Bool) → c.is-blit.result ≡ b → is_blit (command_in c.before.before.before.args.self) ≡ b
-blit c b h = test-is c.before.before.before.args.self _ c.before.command-of.ensures is_blit _ c.is-blit.ensures b h
+blit : (c : tie.After-is_blit) (b : Bool) → c.is_blit.result ≡ b → is_blit (command_in c.args.self) ≡ b
+blit c b h = test-is c.args.self _ c.command_of-c.ensures is_blit _ c.is_blit.ensures b h
 
 -- whether it is a line
-line : (c : tie.After-is-line) (b : Bool) → c.is-line.result ≡ b → is_line (command_in c.before.before.before.before.before.args.self) ≡ b
+line : (c : tie.After-is_line) (b : Bool) → c.is_line.result ≡ b → is_line (command_in c.args.self) ≡ b
 line c b h =
     let o = c.before.before.before in
-    test-is o.before.before.args.self _ o.command-of.ensures is_line _ c.is-line.ensures b h
+    test-is o.args.self _ o.command_of-c.ensures is_line _ c.is_line.ensures b h
 
-command-of-requires : tie.Need-command-of-requires
+command-of-requires : tie.Need-command_of-c-requires
 command-of-requires c κs = search rules
 
-is-blit-requires : tie.Need-is-blit-requires
+is-blit-requires : tie.Need-is_blit-requires
 is-blit-requires c κs = search rules
 
-cell-visit-requires : tie.Need-cell-visit-requires
+cell-visit-requires : tie.Need-cell_visit-requires
 cell-visit-requires c κs = search rules
 
-returns : tie.Need-returns
-returns c = c.cell-visit.ensures ∙ position-blit _ _ _ (blit c.before.before true c.before.if1.true)
+returns : tie.Need-returns-then-is_blit
+returns c = c.cell_visit.ensures ∙ position-blit _ _ _ (blit c.before.before true c.if-is_blit.true)
 
-is-line-requires : tie.Need-is-line-requires
+is-line-requires : tie.Need-is_line-requires
 is-line-requires c κs = search rules
 
-line-start-requires : tie.Need-line-start-requires
+line-start-requires : tie.Need-line_start-requires
 line-start-requires c κs = search rules
 
-line-visit-requires : tie.Need-line-visit-requires
+line-visit-requires : tie.Need-line_visit-requires
 line-visit-requires c κs = search rules
 
-returns-2 : tie.Need-returns-2
+returns-2 : tie.Need-returns-then-is_line
 returns-2 c =
     let o = c.before.before.before in
-    let said = o.before.before.before.command-of.ensures in
-    c.line-visit.ensures ∙ rw (c.before.line-start.ensures, said)
-    (position-line _ _ _ (blit o.before.before false o.before.if1.false) (line o true c.before.before.if2.true))
+    let said = o.command_of-c.ensures in
+    c.line_visit.ensures ∙ rw (c.line_start.ensures, said)
+    (position-line _ _ _ (blit o.before.before false o.if-is_blit.false) (line o true c.if-is_line.true))
 
-returns-3 : tie.Need-returns-3
-returns-3 c = position-none _ _ _ (blit c.before.before.before false c.before.before.if1.false) (line c.before false c.if2.false)
+returns-3 : tie.Need-returns
+returns-3 c = position-none _ _ _ (blit c.before.before.before false c.if-is_blit.false) (line c.before false c.if-is_line.false)
 
-pub position-spec : {M : Type 1} → statement M
-position-spec =
+pub position_spec : {M : Type 1} → statement M
+position_spec =
     tie.close
     (tie.spec
     command-of-requires

@@ -15,59 +15,59 @@ abbrev with : tie.Start → Engine → Engine
 with c e = let s = c.args in numbered e s.cmd s.last s.xy0 s.xy1 s.xy2 s.xy3 s.clptl s.clpbr
 
 -- whether the command is a blit
-blit : (c : tie.After-is-blit) (b : Bool) → c.is-blit.result ≡ b → is_blit (command_of c.before.before.args.cmd) ≡ b
-blit c b h = ap is_blit (sym c.before.command-of.ensures) ∙ sym c.is-blit.ensures ∙ h
+blit : (c : tie.After-is_blit) (b : Bool) → c.is_blit.result ≡ b → is_blit (command_of c.args.cmd) ≡ b
+blit c b h = ap is_blit (sym c.command_of-c.ensures) ∙ sym c.is_blit.ensures ∙ h
 
 -- whether it is a line
-line : (c : tie.After-is-line) (b : Bool) → c.is-line.result ≡ b → is_line (command_of c.before.before.before.before.args.cmd) ≡ b
-line c b h = ap is_line (sym c.before.before.before.command-of.ensures) ∙ sym c.is-line.ensures ∙ h
+line : (c : tie.After-is_line) (b : Bool) → c.is_line.result ≡ b → is_line (command_of c.args.cmd) ≡ b
+line c b h = ap is_line (sym c.command_of-c.ensures) ∙ sym c.is_line.ensures ∙ h
 
-command-of-requires : tie.Need-command-of-requires
+command-of-requires : tie.Need-command_of-c-requires
 command-of-requires c κs = search rules
 
-is-blit-requires : tie.Need-is-blit-requires
+is-blit-requires : tie.Need-is_blit-requires
 is-blit-requires c κs = search rules
 
-window-of-requires : tie.Need-window-of-requires
+window-of-requires : tie.Need-window_of-requires
 window-of-requires c κs = search rules
 
-visible-count-requires : tie.Need-visible-count-requires
+visible-count-requires : tie.Need-visible_count-requires
 visible-count-requires c κs = search rules
 
-returns : tie.Need-returns
+returns : tie.Need-returns-then-is_blit
 returns c e =
     let o = c.before.before.before in
-    c.visible-count.ensures
-    ∙ rw (c.before.window-of.ensures, o.before.command-of.ensures)
-    (count-blit _ (with o.before.before e) (blit o true c.before.before.if1.true))
+    c.visible_count.ensures
+    ∙ rw (c.window_of.ensures, o.command_of-c.ensures)
+    (count-blit _ (with o.before.before e) (blit o true c.if-is_blit.true))
 
-is-line-requires : tie.Need-is-line-requires
+is-line-requires : tie.Need-is_line-requires
 is-line-requires c κs = search rules
 
-is-polyline-requires : tie.Need-is-polyline-requires
+is-polyline-requires : tie.Need-is_polyline-requires
 is-polyline-requires c κs = search rules
 
-start-of-requires : tie.Need-start-of-requires
+start-of-requires : tie.Need-start_of-start-requires
 start-of-requires c κs = search rules
 
-line-count-requires : tie.Need-line-count-requires
+line-count-requires : tie.Need-line_count-requires
 line-count-requires c κs = search rules
 
-returns-2 : tie.Need-returns-2
+returns-2 : tie.Need-returns-then-is_line
 returns-2 c e =
     let o = c.before.before.before.before in
     let b = o.before.before in
-    c.line-count.ensures
-    ∙ rw (c.before.start_of_lem.ensures, c.before.before.is-polyline.ensures, b.before.command-of.ensures)
-    (count-line _ (with b.before.before e) (blit b false o.before.if1.false) (line o true c.before.before.before.if2.true))
+    c.line_count.ensures
+    ∙ rw (c.start_of-start.ensures, c.is_polyline.ensures, b.command_of-c.ensures)
+    (count-line _ (with b.before.before e) (blit b false o.if-is_blit.false) (line o true c.if-is_line.true))
 
-returns-3 : tie.Need-returns-3
+returns-3 : tie.Need-returns
 returns-3 c e =
     let b = c.before.before.before in
-    count_none _ (with b.before.before e) (blit b false c.before.before.if1.false) (line c.before false c.if2.false)
+    count_none _ (with b.before.before e) (blit b false c.if-is_blit.false) (line c.before false c.if-is_line.false)
 
-pub count-by-spec : {M : Type 1} → statement M
-count-by-spec =
+pub count_by_spec : {M : Type 1} → statement M
+count_by_spec =
     tie.close
     (tie.spec
     command-of-requires

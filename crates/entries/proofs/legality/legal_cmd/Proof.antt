@@ -7,36 +7,36 @@ use Rattle.entries.proofs.Registers.{blit-word, other_word}
 use Rattle.entries.proofs.legality.legal_cmd.Statement.{statement}
 use Rattle.entries.proofs.legality.legal_cmd.Tie as tie
 
-command-of-requires : tie.Need-command-of-requires
+command-of-requires : tie.Need-command_of-c-requires
 command-of-requires c κs = search rules
 
-is-blit-requires : tie.Need-is-blit-requires
+is-blit-requires : tie.Need-is_blit-requires
 is-blit-requires c κs = search rules
 
-legal-blit-requires : tie.Need-legal-blit-requires
+legal-blit-requires : tie.Need-legal_blit-requires
 legal-blit-requires c κs = search rules
 
 -- what the test says of the word
-kind : (c : tie.After-is-blit) (b : Bool) → c.is-blit.result ≡ b → is_blit (command_of c.before.before.args.word) ≡ b
-kind c b h = ap is_blit (sym c.before.command-of.ensures) ∙ sym c.is-blit.ensures ∙ h
+kind : (c : tie.After-is_blit) (b : Bool) → c.is_blit.result ≡ b → is_blit (command_of c.args.word) ≡ b
+kind c b h = ap is_blit (sym c.command_of-c.ensures) ∙ sym c.is_blit.ensures ∙ h
 
-returns : tie.Need-returns
+returns : tie.Need-returns-then-is_blit
 returns c =
     let o = c.before.before in
-    rw (c.legal-blit.ensures, o.before.command-of.ensures) (blit-word _ (kind o true c.before.if1.true))
+    rw (c.legal_blit.ensures, o.command_of-c.ensures) (blit-word _ (kind o true c.if-is_blit.true))
 
-is-line-requires : tie.Need-is-line-requires
+is-line-requires : tie.Need-is_line-requires
 is-line-requires c κs = search rules
 
-legal-line-requires : tie.Need-legal-line-requires
+legal-line-requires : tie.Need-legal_line-requires
 legal-line-requires c κs = search rules
 
-returns-2 : tie.Need-returns-2
+returns-2 : tie.Need-returns
 returns-2 c =
     let o = c.before.before.before in
-    rw (c.legal-line.ensures, c.before.is-line.ensures, o.before.command-of.ensures) (other_word _ (kind o false c.before.before.if1.false))
+    rw (c.legal_line.ensures, c.is_line.ensures, o.command_of-c.ensures) (other_word _ (kind o false c.if-is_blit.false))
 
-pub legal-cmd-spec : {M : Type 1} → statement M
-legal-cmd-spec =
+pub legal_cmd_spec : {M : Type 1} → statement M
+legal_cmd_spec =
     tie.close
     (tie.spec command-of-requires is-blit-requires legal-blit-requires returns is-line-requires legal-line-requires returns-2)

@@ -13,86 +13,86 @@ use Rattle.feeds.proofs.Reporting.{good-next, good-held, feed-malformed, feed-wr
 use Rattle.feeds.proofs.pieces.feed_status.Statement.{statement}
 use Rattle.feeds.proofs.pieces.feed_status.Tie as tie
 
-good : (c : tie.Else1) → let s = c.before.before.before.before.args in feed_ok s.z s.f ≡ true
-good c = sym c.before.well-formed-2.ensures ∙ not-false c.before.well-formed-2.result c.if1.false
+good : (c : tie.Else-not-well_formed) → let s = c.args in feed_ok s.z s.f ≡ true
+good c = sym c.well_formed-2.ensures ∙ not-false c.well_formed-2.result c.if-not-well_formed.false-raw
 
-four : (c : tie.Else1) → length c.before.before.before.before.args.f.held ≡ 4
+four : (c : tie.Else-not-well_formed) → length c.args.f.held ≡ 4
 four c = search rules
 
-next : (c : tie.Else1) → let s = c.before.before.before.before.args in s.f.next ≤ s.z.entries
-next c = let s = c.before.before.before.before.args in good-next s.z s.f (good c)
+next : (c : tie.Else-not-well_formed) → let s = c.args in s.f.next ≤ s.z.entries
+next c = let s = c.args in good-next s.z s.f (good c)
 
 -- a slice's length fits
-short : (c : tie.After-shared-slice-known2) → length c.before.before.args.piece.now < 18446744073709551616
+short : (c : tie.After-shared_slice_known-2-1) → length c.args.piece.now < 18446744073709551616
 short c = omega arith
 
-well-formed-requires : tie.Need-well-formed-requires
+well-formed-requires : tie.Need-well_formed-requires
 well-formed-requires c κs = search rules
 
-returns : tie.Need-returns
+returns : tie.Need-returns-then-not-well_formed
 returns c =
-    let s = c.before.before.before.before.args in
-    feed-malformed s.z s.a s.p s.list.now s.f s.piece.now (sym c.before.well-formed-2.ensures ∙ not-true c.before.well-formed-2.result c.if1.true)
+    let s = c.args in
+    feed-malformed s.z s.a s.p s.list.now s.f s.piece.now (sym c.well_formed-2.ensures ∙ not-true c.well_formed-2.result c.if-not-well_formed.true-raw)
 
-cast-if2 : tie.Need-overflow-cast-if2
+cast-if2 : tie.Need-overflow_cast-z
 cast-if2 c = search rules
 
-mul-if2 : tie.Need-overflow-mul-if2
+mul-if2 : tie.Need-overflow_mul-z
 mul-if2 c = search rules
 
-returns-2 : tie.Need-returns-2
+returns-2 : tie.Need-returns-then-list-z
 returns-2 c =
     let else = c.before.before in
-    let s = else.before.before.before.before.args in
-    feed-wrong-size s.z s.a s.p s.list.now s.f s.piece.now (good else) c.if2.true
+    let s = else.args in
+    feed-wrong-size s.z s.a s.p s.list.now s.f s.piece.now (good else) c.if-list-z.true
 
-cast-entries-in : tie.Need-overflow-cast-entries-in
+cast-entries-in : tie.Need-overflow_cast-f
 cast-entries-in c = search rules
 
-entries-in-requires : tie.Need-entries-in-requires
+entries-in-requires : tie.Need-entries_in-n-requires
 entries-in-requires c κs =
     let else = c.before.before.before in
-    let s = else.before.before.before.before.args in
+    let s = else.args in
     few s.f (good-held s.z s.f (good else))
 
-cast-past : tie.Need-overflow-cast-past
+cast-past : tie.Need-overflow_cast-past
 cast-past c = search rules
 
-sub-past : tie.Need-overflow-sub-past
+sub-past : tie.Need-overflow_sub-past
 sub-past c = omega (arith, next c.before.before.before.before.before)
 
 held-requires : tie.Need-held-requires
 held-requires c κs =
     let e = c.before in
     let else = e.before.before.before.before in
-    let s = else.before.before.before.before.args in
-    omega (arith, next else, short else.before.before, e.entries-in.ensures, few s.f (good-held s.z s.f (good else)))
+    let s = else.args in
+    omega (arith, next else, short else.before.before, e.entries_in-n.ensures, few s.f (good-held s.z s.f (good else)))
 
 held-requires-2 : tie.Need-held-requires-2
 held-requires-2 c κs =
     let e = c.before.before in
     let else = e.before.before.before.before in
-    let s = else.before.before.before.before.args in
-    omega (arith, next else, short else.before.before, e.entries-in.ensures, few s.f (good-held s.z s.f (good else)))
+    let s = else.args in
+    omega (arith, next else, short else.before.before, e.entries_in-n.ensures, few s.f (good-held s.z s.f (good else)))
 
-place-status-requires : tie.Need-place-status-requires
+place-status-requires : tie.Need-place_status-requires
 place-status-requires c κs = search rules
 
-returns-3 : tie.Need-returns-3
+returns-3 : tie.Need-returns
 returns-3 c =
     let held2 = c.before in
     let held = held2.before in
     let e = held.before.before in
     let sized = e.before.before in
     let else = sized.before.before in
-    let s = else.before.before.before.before.args in
-    let many = count-is s.f s.piece.now (good-held s.z s.f (good else)) (four else) e.entries-in.result _ e.entries-in.ensures refl in
-    c.place-status.ensures
-    ∙ feed-placed s.z s.a s.p s.list.now s.f s.piece.now (good else) sized.if2.false e.entries-in.result (held.held.result || held2.held2.result) many
-    (ap₂ ◌||◌ held.held.ensures held2.held2.ensures)
+    let s = else.args in
+    let many = count-is s.f s.piece.now (good-held s.z s.f (good else)) (four else) e.entries_in-n.result _ e.entries_in-n.ensures refl in
+    c.place_status.ensures
+    ∙ feed-placed s.z s.a s.p s.list.now s.f s.piece.now (good else) sized.if-list-z.false e.entries_in-n.result (held.held.result || held2.held-2.result) many
+    (ap₂ ◌||◌ held.held.ensures held2.held-2.ensures)
 
-pub feed-status-spec : {M : Type 1} → statement M
-feed-status-spec =
+pub feed_status_spec : {M : Type 1} → statement M
+feed_status_spec =
     tie.close
     (tie.spec
     well-formed-requires

@@ -10,60 +10,60 @@ use Rattle.pictures.proofs.Rasters.{raster-fits, read-wrong-size, read-refused, 
 use Rattle.pictures.proofs.reading.read_picture.Statement.{statement}
 use Rattle.pictures.proofs.reading.read_picture.Tie as tie
 
-found : (s : tie.After-start) → let a = s.before.before.before.before.before.before.before.args in
-    From s.start.given.0.0 ≡ raster_of a.width a.height a.picture.now
-found s = sym s.start.given.1 ∙ s.before.before.raster-start.ensures
+found : (s : tie.In-From-2) → let a = s.args in
+    From s.in-From.start ≡ raster_of a.width a.height a.picture.now
+found s = sym s.in-From.is ∙ s.raster_start.ensures
 
 area-requires : tie.Need-area-requires
 area-requires c κs = search rules
 
-returns : tie.Need-returns
-returns c = read-wrong-size _ _ _ _ _ c.before.area.ensures c.if1.true
+returns : tie.Need-returns-then-buffer-area
+returns c = read-wrong-size _ _ _ _ _ c.area.ensures c.if-buffer-area.true
 
-raster-start-requires : tie.Need-raster-start-requires
+raster-start-requires : tie.Need-raster_start-requires
 raster-start-requires c κs = search rules
 
-enum-known-start : tie.Need-enum-known-start
+enum-known-start : tie.Need-enum_known-start
 enum-known-start c = search rules
 
-sub-copy : tie.Need-overflow-sub-copy
+sub-copy : tie.Need-slice_bounds-copy_from_slice-count
 sub-copy c = (raster-fits _ _ _ _ (found c.before)).0
 
-part-copy-start : tie.Need-slice-bounds-copy-start
+part-copy-start : tie.Need-slice_bounds-copy_from_slice-start
 part-copy-start c = (raster-fits _ _ _ _ (found c.before)).0
 
-part-copy-end : tie.Need-slice-bounds-copy-end
+part-copy-end : tie.Need-slice_bounds-copy_from_slice-end
 part-copy-end c = search rules
 
-copy-requires : tie.Need-copy-requires
+copy-requires : tie.Need-copy_from_slice-requires
 copy-requires c κs =
     let s = c.before.before.before in
     let o = s.before.before.before in
-    let a = o.before.before.before.before.args in
-    rw (part-is a.picture.now s.start.given.0.0)
-    (omega (arith, (raster-fits _ _ _ _ (found s)).1, o.before.area.ensures, o.if1.false))
+    let a = o.args in
+    rw (part-is a.picture.now s.in-From.start)
+    (omega (arith, (raster-fits _ _ _ _ (found s)).1, o.area.ensures, o.if-buffer-area.false))
 
-enum_told : tie.Need-enum-told
+enum_told : tie.Need-enum_told-1
 enum_told c = search rules
 
-same_length : tie.Need-same-length
+same_length : tie.Need-shape_of-buffer
 same_length c = search rules
 
-returns-2 : tie.Need-returns-2
+returns-2 : tie.Need-returns-in-From
 returns-2 c =
     let copied = c.before.before in
     let s = copied.before.before.before.before in
     let o = s.before.before.before in
-    read_done _ _ _ _ _ o.before.area.ensures o.if1.false _ _ (found s) copied.copy.ensures.1
+    read_done _ _ _ _ _ o.area.ensures o.if-buffer-area.false _ _ (found s) copied.copy.ensures.1
 
-returns-3 : tie.Need-returns-3
+returns-3 : tie.Need-returns-in-Nowhere
 returns-3 c =
     let r = c.before.before in
-    read-refused _ _ _ _ _ r.before.before.area.ensures r.before.if1.false
-    (sym c.enum_told.given.1 ∙ r.raster-start.ensures)
+    read-refused _ _ _ _ _ r.area.ensures r.if-buffer-area.false
+    (sym c.in-Nowhere.is ∙ r.raster_start.ensures)
 
-pub read-picture-spec : {M : Type 1} → statement M
-read-picture-spec =
+pub read_picture_spec : {M : Type 1} → statement M
+read_picture_spec =
     tie.close
     (tie.spec
     area-requires

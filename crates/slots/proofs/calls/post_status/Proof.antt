@@ -12,73 +12,73 @@ use Rattle.slots.proofs.calls.post_status.Statement.{statement}
 use Rattle.slots.proofs.calls.post_status.Tie as tie
 
 -- a span that passes the end
-past : (c : tie.Else2) → let s = c.before.before.before.before.args in s.z.entries < s.start + s.count
+past : (c : tie.Else-count-eq0) → let s = c.args in s.z.entries < s.start + s.count
     → report 4 0 0 ≡ post_report s.z s.a s.p s.list.now s.start s.count
-past c h = post-past _ _ _ _ _ _ c.before.if1.false c.if2.false h
+past c h = post-past _ _ _ _ _ _ c.if-list-z.false c.if-count-eq0.false h
 
 -- a span within list memory, judged by its first illegal entry
-judged : (c : tie.After-first-illegal) → let s = c.before.before.before.before.before.before.before.before.before.before.before.before.args in (j : Illegal) → c.first-illegal.result ≡ j
+judged : (c : tie.After-first_illegal) → let s = c.args in (j : Illegal) → c.first_illegal.result ≡ j
     → judged_by j ≡ post_report s.z s.a s.p s.list.now s.start s.count
 judged c j e =
     let full = c.before in
     let more = full.before.before.before.before.before.before.before in
-    post-judged _ _ _ _ _ _ more.before.if1.false more.if2.false (omega arith) full.if5.false _ j c.first-illegal.ensures e
+    post-judged _ _ _ _ _ _ more.if-list-z.false more.if-count-eq0.false (omega arith) full.if-a-p.false _ j c.first_illegal.ensures e
 
-cast-if1 : tie.Need-overflow-cast-if1
+cast-if1 : tie.Need-overflow_cast-z
 cast-if1 c = search rules
 
-mul-if1 : tie.Need-overflow-mul-if1
+mul-if1 : tie.Need-overflow_mul-z
 mul-if1 c = search rules
 
-returns : tie.Need-returns
-returns c = post-wrong-size _ _ _ _ _ _ c.if1.true
+returns : tie.Need-returns-then-list-z
+returns c = post-wrong-size _ _ _ _ _ _ c.if-list-z.true
 
-returns-2 : tie.Need-returns-2
-returns-2 c = post-none _ _ _ _ _ _ c.before.if1.false c.if2.true
+returns-2 : tie.Need-returns-then-count-eq0
+returns-2 c = post-none _ _ _ _ _ _ c.if-list-z.false c.if-count-eq0.true
 
-cast-if3 : tie.Need-overflow-cast-if3
+cast-if3 : tie.Need-overflow_cast-z-2
 cast-if3 c = search rules
 
-returns-3 : tie.Need-returns-3
+returns-3 : tie.Need-returns-then-z-start
 returns-3 c = past c.before.before (omega arith)
 
-cast-if4 : tie.Need-overflow-cast-if4
+cast-if4 : tie.Need-overflow_cast-z-3
 cast-if4 c = search rules
 
-sub-if4 : tie.Need-overflow-sub-if4
+sub-if4 : tie.Need-overflow_sub-z
 sub-if4 c = search rules
 
-returns-4 : tie.Need-returns-4
+returns-4 : tie.Need-returns-then-z-start-2
 returns-4 c = past c.before.before.before.before (omega arith)
 
-returns-5 : tie.Need-returns-5
+returns-5 : tie.Need-returns-then-a-p
 returns-5 c =
     let more = c.before.before.before.before.before.before.before in
-    post-full _ _ _ _ _ _ more.before.if1.false more.if2.false (omega arith) c.if5.true
+    post-full _ _ _ _ _ _ more.if-list-z.false more.if-count-eq0.false (omega arith) c.if-a-p.true
 
-cast-t13 : tie.Need-overflow-cast-t13
+cast-t13 : tie.Need-overflow_cast-span
 cast-t13 c = search rules
 
-cast-t14 : tie.Need-overflow-cast-t14
+cast-t14 : tie.Need-overflow_cast-span-2
 cast-t14 c = search rules
 
-first-illegal-requires : tie.Need-first-illegal-requires
+first-illegal-requires : tie.Need-first_illegal-requires
 first-illegal-requires c κs = search rules
 
-enum-known-place : tie.Need-enum-known-place
+enum-known-place : tie.Need-enum_known-place
 enum-known-place c = search rules
 
-enum_told : tie.Need-enum-told
+enum_told : tie.Need-enum_told-1
 enum_told c = search rules
 
-returns-6 : tie.Need-returns-6
-returns-6 c = judged c.before.before.before _ c.before.place.given.1
+returns-6 : tie.Need-returns-in-At
+returns-6 c = judged c.before.before.before _ c.in-At.is
 
-returns-7 : tie.Need-returns-7
-returns-7 c = judged c.before.before _ c.enum_told.given.1
+returns-7 : tie.Need-returns-in-Nowhere
+returns-7 c = judged c.before.before _ c.in-Nowhere.is
 
-pub post-status-spec : {M : Type 1} → statement M
-post-status-spec =
+pub post_status_spec : {M : Type 1} → statement M
+post_status_spec =
     tie.close
     (tie.spec
     cast-if1

@@ -17,53 +17,53 @@ use Rattle.slots.proofs.calls.write_into.Statement.{statement}
 use Rattle.slots.proofs.calls.write_into.Tie as tie
 
 -- a span that passes the end
-past : (c : tie.Else1) → let s = c.before.before.before.before.before.before.args in area_of s.z < s.offset + length s.bytes.now
+past : (c : tie.Else-not-number-buffer) → let s = c.args in area_of s.z < s.offset + length s.bytes.now
     → leaves 4 s.buffer.now ≡ write_report s.z s.a s.p s.number s.offset s.bytes.now s.buffer.now
-past c h = write-past _ _ _ _ _ _ _ (not-false _ c.if1.false) h
+past c h = write-past _ _ _ _ _ _ _ (not-false _ c.if-not-number-buffer.false-raw) h
 
-cast-area : tie.Need-overflow-cast-area
+cast-area : tie.Need-overflow_cast-area
 cast-area c = search rules
 
-cast-area-2 : tie.Need-overflow-cast-area-2
+cast-area-2 : tie.Need-overflow_cast-area-2
 cast-area-2 c = search rules
 
-mul-area : tie.Need-overflow-mul-area
+mul-area : tie.Need-overflow_mul-area
 mul-area c =
-    let x = c.before.before.before.before.before.args.z.extent in
+    let x = c.args.z.extent in
     omega (arith, product-fits x.width x.height (search rules) (search rules))
 
-returns : tie.Need-returns
-returns c = write-wrong-size _ _ _ _ _ _ _ (not-true _ c.if1.true)
+returns : tie.Need-returns-then-not-number-buffer
+returns c = write-wrong-size _ _ _ _ _ _ _ (not-true _ c.if-not-number-buffer.true-raw)
 
-returns-2 : tie.Need-returns-2
+returns-2 : tie.Need-returns-then-area-offset
 returns-2 c = past c.before (omega arith)
 
-returns-3 : tie.Need-returns-3
+returns-3 : tie.Need-returns-then-area-offset-2
 returns-3 c = past c.before.before (omega arith)
 
-returns-4 : tie.Need-returns-4
+returns-4 : tie.Need-returns-then-a-p
 returns-4 c =
     let named = c.before.before.before.before.before in
-    write-busy _ _ _ _ _ _ _ (not-false _ named.if1.false) (omega arith) c.if4.true
+    write-busy _ _ _ _ _ _ _ (not-false _ named.if-not-number-buffer.false-raw) (omega arith) c.if-a-p.true
 
 put-requires : tie.Need-put-requires
 put-requires c κs =
     let named = c.before.before.before.before.before.before in
-    let s = named.before.before.before.before.before.before.args in
+    let s = named.args in
     let one = leb s.number 1 in
     let whole = eqb (length s.buffer.now) (area_of s.z) in
-    let both : (one && whole) ≡ true = not-false (one && whole) named.if1.false in
+    let both : (one && whole) ≡ true = not-false (one && whole) named.if-not-number-buffer.false-raw in
     omega (arith, eqb-true (length s.buffer.now) (area_of s.z) (and_right one whole both))
 
-same_length : tie.Need-same-length
+same_length : tie.Need-shape_of-buffer
 same_length c = search rules
 
-returns-5 : tie.Need-returns-5
+returns-5 : tie.Need-returns
 returns-5 c =
     let done = c.before.before in
     let free = done.before.before in
     let named = free.before.before.before.before.before in
-    write_done _ _ _ _ _ _ _ (not-false _ named.if1.false) (omega arith) free.if4.false _ done.put.ensures
+    write_done _ _ _ _ _ _ _ (not-false _ named.if-not-number-buffer.false-raw) (omega arith) free.if-a-p.false _ done.put.ensures
 
 pub write_into_spec : {M : Type 1} → statement M
 write_into_spec =

@@ -14,83 +14,83 @@ use Rattle.strokes.proofs.Loops.{place_inside, can-move, PlottingDashes, plottin
 use Rattle.strokes.proofs.bresenham.dash_places.Statement.{statement}
 use Rattle.strokes.proofs.bresenham.dash_places.Tie as tie
 
-abbrev invariant-loop : tie.invariant-loop
-invariant-loop buffer₀ dashes s n keep flip last phase₀ state₀ j₀ buffer phase state j =
+abbrev invariant-loop-j : tie.invariant-loop-j
+invariant-loop-j buffer₀ dashes s n keep flip last phase₀ state₀ j₀ buffer phase state j =
     PlottingDashes dashes s state₀ last buffer₀ (pattern_of phase₀) buffer phase state j
 
-abbrev decreases-loop : tie.decreases-loop
-decreases-loop buffer₀ dashes s n keep flip last phase₀ state₀ j₀ buffer phase state j = last - j
+abbrev decreases-loop-j : tie.decreases-loop-j
+decreases-loop-j buffer₀ dashes s n keep flip last phase₀ state₀ j₀ buffer phase state j = last - j
 
-inside : (c : tie.At-loop invariant-loop decreases-loop)
-    → let l = c.loop in
-    l.j < c.before.before.before.before.before.args.n → l.state.place < length l.buffer
-inside c h = place_inside c.before.before.before.before.before.requires c.loop.invariant.reached h
+inside : (c : tie.At-loop-j invariant-loop-j decreases-loop-j)
+    → let l = c.loop-j in
+    l.j < c.args.n → l.state.place < length l.buffer
+inside c h = place_inside c.requires c.loop-j.invariant.reached h
 
-back-pen-requires : tie.Need-back-pen-requires invariant-loop decreases-loop
+back-pen-requires : tie.Need-back_pen-back-requires invariant-loop-j decreases-loop-j
 back-pen-requires c κs = search rules
 
-sub-last : tie.Need-overflow-sub-last invariant-loop decreases-loop
-sub-last c = c.before.before.before.requires.some
+sub-last : tie.Need-overflow_sub-last invariant-loop-j decreases-loop-j
+sub-last c = c.requires.some
 
-phase-at-requires : tie.Need-phase-at-requires invariant-loop decreases-loop
+phase-at-requires : tie.Need-phase_at-phase-requires invariant-loop-j decreases-loop-j
 phase-at-requires c κs = search rules
 
-loop-holds : tie.Need-loop-init invariant-loop decreases-loop
-loop-holds c = plotting-dashes-start _ _ _ _ _ _ c.phase-at.ensures.1
+loop-holds : tie.Need-loop-j-init invariant-loop-j decreases-loop-j
+loop-holds c = plotting-dashes-start _ _ _ _ _ _ c.phase_at-phase.ensures.1
 
-slice-read-draw-bit : tie.Need-slice-read-draw-bit invariant-loop decreases-loop
+slice-read-draw-bit : tie.Need-bounds-buffer-at invariant-loop-j decreases-loop-j
 slice-read-draw-bit c = let o = c.before.before.before in inside o.before (omega (arith, o.loop-test.true))
 
-draw-bit-requires : tie.Need-draw-bit-requires invariant-loop decreases-loop
+draw-bit-requires : tie.Need-draw_bit-requires invariant-loop-j decreases-loop-j
 draw-bit-requires c κs = search rules
 
-slice-write-buffer : tie.Need-slice-write-buffer invariant-loop decreases-loop
+slice-write-buffer : tie.Need-bounds-buffer-at-in-loop-j invariant-loop-j decreases-loop-j
 slice-write-buffer c = let o = c.before.before.before.before in inside o.before (omega (arith, o.loop-test.true))
 
-next-requires : tie.Need-next-requires invariant-loop decreases-loop
-next-requires c κs = c.before.before.before.before.before.loop.invariant.holds
+next-requires : tie.Need-next-phase-requires invariant-loop-j decreases-loop-j
+next-requires c κs = c.loop-j.invariant.holds
 
-next-by-axis-requires : tie.Need-next-by-axis-requires invariant-loop decreases-loop
+next-by-axis-requires : tie.Need-next_by_axis-state-requires invariant-loop-j decreases-loop-j
 next-by-axis-requires c κs =
     let o = c.before.before.before.before.before in
     let l = o.before in
-    can-move l.before.before.before.before.before.requires l.loop.invariant.reached (omega (arith, o.loop-test.true))
+    can-move l.requires l.loop-j.invariant.reached (omega (arith, o.loop-j-test.true))
 
-add-j : tie.Need-overflow-add-j invariant-loop decreases-loop
+add-j : tie.Need-overflow_add-j invariant-loop-j decreases-loop-j
 add-j c = search rules
 
-loop-less : tie.Need-loop-smaller invariant-loop decreases-loop
-loop-less c = falls _ _ c.before.before.before.before.before.before.loop-test.true
+loop-less : tie.Need-loop-j-smaller invariant-loop-j decreases-loop-j
+loop-less c = falls _ _ c.loop-j-test.true
 
-loop-again : tie.Need-loop-preserved invariant-loop decreases-loop
+loop-again : tie.Need-loop-j-preserved invariant-loop-j decreases-loop-j
 loop-again c =
     let p = c.before in
     let i = p.before in
     let k = i.before in
     let o = k.before.before.before in
     let l = o.before in
-    plotting-dashes-turn l.loop.invariant (λ m. omega (arith, k.slice-known2.given m)) l.before.before.back-pen.ensures i.draw-bit.ensures
-    p.next.ensures o.loop-test.true c.next-by-axis.ensures
+    plotting-dashes-turn l.loop-j.invariant (λ m. omega (arith, k.slice_known-in-loop-j-1.given m)) l.back_pen-back.ensures i.draw_bit.ensures
+    p.next-phase.ensures o.loop-j-test.true c.next_by_axis-state.ensures
 
-slice-read-draw-bit-2 : tie.Need-slice-read-draw-bit-2 invariant-loop decreases-loop
+slice-read-draw-bit-2 : tie.Need-bounds-buffer-at-2 invariant-loop-j decreases-loop-j
 slice-read-draw-bit-2 c = let o = c.before.before.before in inside o.before (omega (arith, o.loop-test.false))
 
-draw-bit-requires-2 : tie.Need-draw-bit-requires-2 invariant-loop decreases-loop
+draw-bit-requires-2 : tie.Need-draw_bit-requires-2 invariant-loop-j decreases-loop-j
 draw-bit-requires-2 c κs = search rules
 
-slice-write-buffer-2 : tie.Need-slice-write-buffer-2 invariant-loop decreases-loop
+slice-write-buffer-2 : tie.Need-bounds-buffer-at-3 invariant-loop-j decreases-loop-j
 slice-write-buffer-2 c = let o = c.before.before.before.before in inside o.before (omega (arith, o.loop-test.false))
 
-next-requires-2 : tie.Need-next-requires-2 invariant-loop decreases-loop
-next-requires-2 c κs = c.before.before.before.before.before.loop.invariant.holds
+next-requires-2 : tie.Need-next-phase-requires-2 invariant-loop-j decreases-loop-j
+next-requires-2 c κs = c.loop-j.invariant.holds
 
-pattern-requires : tie.Need-pattern-requires invariant-loop decreases-loop
-pattern-requires c κs = c.next2.ensures.1
+pattern-requires : tie.Need-pattern-requires invariant-loop-j decreases-loop-j
+pattern-requires c κs = c.next-phase-2.ensures.1
 
-same_length : tie.Need-same-length invariant-loop decreases-loop
+same_length : tie.Need-shape_of-buffer invariant-loop-j decreases-loop-j
 same_length c = search rules
 
-returns : tie.Need-returns invariant-loop decreases-loop
+returns : tie.Need-returns invariant-loop-j decreases-loop-j
 returns c =
     let p = c.before in
     let i = p.before in
@@ -98,16 +98,16 @@ returns c =
     let o = k.before.before.before in
     let l = o.before in
     let a = l.before in
-    let some = a.before.before.before.before.requires.some in
-    plotting-dashes-end l.loop.invariant (λ m. omega (arith, k.slice-known3.given m)) a.before.back-pen.ensures i.draw-bit2.ensures
-    (c.pattern.ensures ∙ p.next2.ensures.0) o.loop-test.false (omega (arith, some)) a.phase-at.ensures.0
+    let some = a.requires.some in
+    plotting-dashes-end l.loop-j.invariant (λ m. omega (arith, k.slice_known-2-1.given m)) a.back_pen-back.ensures i.draw_bit-2.ensures
+    (c.pattern.ensures ∙ p.next-phase-2.ensures.0) o.loop-j-test.false (omega (arith, some)) a.phase_at-phase.ensures.0
 
-pub dash-places-spec : {M : Type 1} → statement M
-dash-places-spec =
+pub dash_places_spec : {M : Type 1} → statement M
+dash_places_spec =
     tie.close
     (tie.spec
-    invariant-loop
-    decreases-loop
+    invariant-loop-j
+    decreases-loop-j
     back-pen-requires
     sub-last
     phase-at-requires

@@ -11,58 +11,58 @@ use Rattle.strokes.proofs.Levels.{in_row}
 use Rattle.strokes.proofs.bresenham.dash_visible.Statement.{statement}
 use Rattle.strokes.proofs.bresenham.dash_visible.Tie as tie
 
-held : (c : tie.After-course-of)
-    → let a = c.before.before.args in
-    let r = c.course-of.result in
+held : (c : tie.After-course_of-course)
+    → let a = c.args in
+    let r = c.course_of-course.result in
     Places r.strides r.start a.n (length a.buffer.now)
-held c = course-places _ _ _ _ c.before.before.requires _ c.course-of.ensures (search rules)
+held c = course-places _ _ _ _ c.requires _ c.course_of-course.ensures (search rules)
 
-course-of-requires : tie.Need-course-of-requires
+course-of-requires : tie.Need-course_of-course-requires
 course-of-requires c κs =
-    let p = c.before.requires in
+    let p = c.requires in
     (first-room _ _ _ _ p, first-from-origin _ _ _ _ p)
 
-is-row-requires : tie.Need-is-row-requires
+is-row-requires : tie.Need-is_row-row-requires
 is-row-requires c κs =
     let o = c.before in
-    stride-sum _ _ _ o.course-of.ensures (first-room _ _ _ _ o.before.before.requires) (search rules)
+    stride-sum _ _ _ o.course_of-course.ensures (first-room _ _ _ _ o.requires) (search rules)
 
-goes-round-requires : tie.Need-goes-round-requires
+goes-round-requires : tie.Need-goes_round-requires
 goes-round-requires c κs = search rules
 
-dash-rounds-requires : tie.Need-dash-rounds-requires
+dash-rounds-requires : tie.Need-dash_rounds-requires
 dash-rounds-requires c κs =
     let t = c.before in
     let g = t.before in
     let r = g.before in
-    let is = r.is_row.result in
-    let goes = g.goes-round.result in
-    let row = in_row _ (sym r.is_row.ensures ∙ and_left is goes t.if1.true) in
-    (held r.before.before, row, sym g.goes-round.ensures ∙ and_right is goes t.if1.true)
+    let is = r.is_row-row.result in
+    let goes = g.goes_round.result in
+    let row = in_row _ (sym r.is_row-row.ensures ∙ and_left is goes t.if-row-goes_round.true) in
+    (held r.before.before, row, sym g.goes_round.ensures ∙ and_right is goes t.if-row-goes_round.true)
 
-same_length : tie.Need-same-length
+same_length : tie.Need-shape_of-buffer-then-row-goes_round
 same_length c = search rules
 
-returns : tie.Need-returns
+returns : tie.Need-returns-then-row-goes_round
 returns c =
     let d = c.before.before in
     let o = d.before.before.before.before.before.before in
-    plot-dashes-on _ _ _ _ o.before.before.requires _ _ _ (rw o.course-of.ensures at d.dash-rounds.ensures)
+    plot-dashes-on _ _ _ _ o.requires _ _ _ (rw o.course_of-course.ensures at d.dash_rounds.ensures)
 
-dash-places-requires : tie.Need-dash-places-requires
+dash-places-requires : tie.Need-dash_places-requires
 dash-places-requires c κs = held c.before.before.before.before.before
 
-same-length-2 : tie.Need-same-length-2
+same-length-2 : tie.Need-shape_of-buffer
 same-length-2 c = search rules
 
-returns-2 : tie.Need-returns-2
+returns-2 : tie.Need-returns
 returns-2 c =
     let d = c.before.before in
     let o = d.before.before.before.before.before.before in
-    plot-dashes-on _ _ _ _ o.before.before.requires _ _ _ (rw o.course-of.ensures at d.dash-places.ensures)
+    plot-dashes-on _ _ _ _ o.requires _ _ _ (rw o.course_of-course.ensures at d.dash_places.ensures)
 
-pub dash-visible-spec : {M : Type 1} → statement M
-dash-visible-spec =
+pub dash_visible_spec : {M : Type 1} → statement M
+dash_visible_spec =
     tie.close
     (tie.spec
     course-of-requires

@@ -11,72 +11,72 @@ use Rattle.strokes.proofs.Loops.{place_inside, can-move, Plotting, plotting-star
 use Rattle.strokes.proofs.bresenham.draw_places.Statement.{statement}
 use Rattle.strokes.proofs.bresenham.draw_places.Tie as tie
 
-abbrev invariant-loop : tie.invariant-loop
-invariant-loop buffer₀ pen s n last state₀ j₀ buffer state j = Plotting pen s state₀ last buffer₀ buffer state j
+abbrev invariant-loop-j : tie.invariant-loop-j
+invariant-loop-j buffer₀ pen s n last state₀ j₀ buffer state j = Plotting pen s state₀ last buffer₀ buffer state j
 
-abbrev decreases-loop : tie.decreases-loop
-decreases-loop buffer₀ pen s n last state₀ j₀ buffer state j = last - j
+abbrev decreases-loop-j : tie.decreases-loop-j
+decreases-loop-j buffer₀ pen s n last state₀ j₀ buffer state j = last - j
 
-inside : (c : tie.At-loop invariant-loop decreases-loop)
-    → let l = c.loop in
-    l.j < c.before.before.args.n → l.state.place < length l.buffer
-inside c h = place_inside c.before.before.requires c.loop.invariant.reached h
+inside : (c : tie.At-loop-j invariant-loop-j decreases-loop-j)
+    → let l = c.loop-j in
+    l.j < c.args.n → l.state.place < length l.buffer
+inside c h = place_inside c.requires c.loop-j.invariant.reached h
 
-sub-last : tie.Need-overflow-sub-last invariant-loop decreases-loop
-sub-last c = c.before.requires.some
+sub-last : tie.Need-overflow_sub-last invariant-loop-j decreases-loop-j
+sub-last c = c.requires.some
 
-loop-holds : tie.Need-loop-init invariant-loop decreases-loop
+loop-holds : tie.Need-loop-j-init invariant-loop-j decreases-loop-j
 loop-holds c = plotting-start _ _ _ _ _
 
-slice-read-draw : tie.Need-slice-read-draw invariant-loop decreases-loop
-slice-read-draw c = inside c.before.before (omega (arith, c.before.loop-test.true))
+slice-read-draw : tie.Need-bounds-buffer-at invariant-loop-j decreases-loop-j
+slice-read-draw c = inside c.before.before (omega (arith, c.loop-j-test.true))
 
-draw-requires : tie.Need-draw-requires invariant-loop decreases-loop
+draw-requires : tie.Need-draw-requires invariant-loop-j decreases-loop-j
 draw-requires c κs = search rules
 
-slice-write-buffer : tie.Need-slice-write-buffer invariant-loop decreases-loop
-slice-write-buffer c = inside c.before.before.before (omega (arith, c.before.before.loop-test.true))
+slice-write-buffer : tie.Need-bounds-buffer-at-in-loop-j invariant-loop-j decreases-loop-j
+slice-write-buffer c = inside c.before.before.before (omega (arith, c.loop-j-test.true))
 
-next-requires : tie.Need-next-requires invariant-loop decreases-loop
+next-requires : tie.Need-next-state-requires invariant-loop-j decreases-loop-j
 next-requires c κs =
     let o = c.before.before in
     let l = o.before in
-    can-move l.before.before.requires l.loop.invariant.reached (omega (arith, o.loop-test.true))
+    can-move l.requires l.loop-j.invariant.reached (omega (arith, o.loop-j-test.true))
 
-add-j : tie.Need-overflow-add-j invariant-loop decreases-loop
+add-j : tie.Need-overflow_add-j invariant-loop-j decreases-loop-j
 add-j c = search rules
 
-loop-less : tie.Need-loop-smaller invariant-loop decreases-loop
-loop-less c = falls _ _ c.before.before.before.loop-test.true
+loop-less : tie.Need-loop-j-smaller invariant-loop-j decreases-loop-j
+loop-less c = falls _ _ c.loop-j-test.true
 
-loop-again : tie.Need-loop-preserved invariant-loop decreases-loop
+loop-again : tie.Need-loop-j-preserved invariant-loop-j decreases-loop-j
 loop-again c =
     let o = c.before.before.before in
-    plotting-turn o.before.loop.invariant c.before.draw.ensures o.loop-test.true c.next.ensures
+    plotting-turn o.loop-j.invariant c.draw.ensures o.loop-j-test.true c.next-state.ensures
 
-slice-read-draw-2 : tie.Need-slice-read-draw-2 invariant-loop decreases-loop
-slice-read-draw-2 c = inside c.before.before (omega (arith, c.before.loop-test.false))
+slice-read-draw-2 : tie.Need-bounds-buffer-at-2 invariant-loop-j decreases-loop-j
+slice-read-draw-2 c = inside c.before.before (omega (arith, c.loop-j-test.false))
 
-draw-requires-2 : tie.Need-draw-requires-2 invariant-loop decreases-loop
+draw-requires-2 : tie.Need-draw-requires-2 invariant-loop-j decreases-loop-j
 draw-requires-2 c κs = search rules
 
-slice-write-buffer-2 : tie.Need-slice-write-buffer-2 invariant-loop decreases-loop
-slice-write-buffer-2 c = inside c.before.before.before (omega (arith, c.before.before.loop-test.false))
+slice-write-buffer-2 : tie.Need-bounds-buffer-at-3 invariant-loop-j decreases-loop-j
+slice-write-buffer-2 c = inside c.before.before.before (omega (arith, c.loop-j-test.false))
 
-same_length : tie.Need-same-length invariant-loop decreases-loop
+same_length : tie.Need-shape_of-buffer invariant-loop-j decreases-loop-j
 same_length c = search rules
 
-returns : tie.Need-returns invariant-loop decreases-loop
+returns : tie.Need-returns invariant-loop-j decreases-loop-j
 returns c =
     let o = c.before.before in
-    plotting-end o.before.loop.invariant c.draw2.ensures o.loop-test.false (omega (arith, o.before.before.before.requires.some))
+    plotting-end o.loop-j.invariant c.draw-2.ensures o.loop-j-test.false (omega (arith, o.requires.some))
 
-pub draw-places-spec : {M : Type 1} → statement M
-draw-places-spec =
+pub draw_places_spec : {M : Type 1} → statement M
+draw_places_spec =
     tie.close
     (tie.spec
-    invariant-loop
-    decreases-loop
+    invariant-loop-j
+    decreases-loop-j
     sub-last
     loop-holds
     slice-read-draw

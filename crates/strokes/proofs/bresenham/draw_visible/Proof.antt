@@ -10,66 +10,66 @@ use Rattle.strokes.proofs.Levels.{in_row}
 use Rattle.strokes.proofs.bresenham.draw_visible.Statement.{statement}
 use Rattle.strokes.proofs.bresenham.draw_visible.Tie as tie
 
-held : (c : tie.After-course-of)
-    → let a = c.before.before.args in
-    let r = c.course-of.result in
+held : (c : tie.After-course_of-course)
+    → let a = c.args in
+    let r = c.course_of-course.result in
     Places r.strides r.start a.n (length a.buffer.now)
-held c = course-places _ _ _ _ c.before.before.requires _ c.course-of.ensures (search rules)
+held c = course-places _ _ _ _ c.requires _ c.course_of-course.ensures (search rules)
 
-course-of-requires : tie.Need-course-of-requires
+course-of-requires : tie.Need-course_of-course-requires
 course-of-requires c κs =
-    let p = c.before.requires in
+    let p = c.requires in
     (first-room _ _ _ _ p, first-from-origin _ _ _ _ p)
 
-is-row-requires : tie.Need-is-row-requires
+is-row-requires : tie.Need-is_row-requires
 is-row-requires c κs =
     let o = c.before in
-    stride-sum _ _ _ o.course-of.ensures (first-room _ _ _ _ o.before.before.requires) (search rules)
+    stride-sum _ _ _ o.course_of-course.ensures (first-room _ _ _ _ o.requires) (search rules)
 
-fill-places-requires : tie.Need-fill-places-requires
+fill-places-requires : tie.Need-fill_places-requires
 fill-places-requires c κs =
     let t = c.before in
     let r = t.before in
-    (held r.before.before, in_row _ (sym r.is_row.ensures ∙ t.if1.true))
+    (held r.before.before, in_row _ (sym r.is_row.ensures ∙ t.if-is_row.true))
 
-same_length : tie.Need-same-length
+same_length : tie.Need-shape_of-buffer-then-is_row
 same_length c = search rules
 
-returns : tie.Need-returns
+returns : tie.Need-returns-then-is_row
 returns c =
     let d = c.before.before in
     let o = d.before.before.before.before.before in
-    plots-on _ _ _ _ o.before.before.requires _ _ _ (rw o.course-of.ensures at d.fill-places.ensures)
+    plots-on _ _ _ _ o.requires _ _ _ (rw o.course_of-course.ensures at d.fill_places.ensures)
 
-store-places-requires : tie.Need-store-places-requires
+store-places-requires : tie.Need-store_places-requires
 store-places-requires c κs =
     let o = c.before.before.before.before.before.before in
-    (held o, c.before.if2.true)
+    (held o, c.if-pen-eq0.true)
 
-same-length-2 : tie.Need-same-length-2
+same-length-2 : tie.Need-shape_of-buffer-then-pen-eq0
 same-length-2 c = search rules
 
-returns-2 : tie.Need-returns-2
+returns-2 : tie.Need-returns-then-pen-eq0
 returns-2 c =
     let d = c.before.before in
     let o = d.before.before.before.before.before.before.before in
-    plots-on _ _ _ _ o.before.before.requires _ _ _ (rw o.course-of.ensures at d.store-places.ensures)
+    plots-on _ _ _ _ o.requires _ _ _ (rw o.course_of-course.ensures at d.store_places.ensures)
 
-draw-places-requires : tie.Need-draw-places-requires
+draw-places-requires : tie.Need-draw_places-requires
 draw-places-requires c κs =
     held c.before.before.before.before.before.before
 
-same-length-3 : tie.Need-same-length-3
+same-length-3 : tie.Need-shape_of-buffer
 same-length-3 c = search rules
 
-returns-3 : tie.Need-returns-3
+returns-3 : tie.Need-returns
 returns-3 c =
     let d = c.before.before in
     let o = d.before.before.before.before.before.before.before in
-    plots-on _ _ _ _ o.before.before.requires _ _ _ (rw o.course-of.ensures at d.draw-places.ensures)
+    plots-on _ _ _ _ o.requires _ _ _ (rw o.course_of-course.ensures at d.draw_places.ensures)
 
-pub draw-visible-spec : {M : Type 1} → statement M
-draw-visible-spec =
+pub draw_visible_spec : {M : Type 1} → statement M
+draw_visible_spec =
     tie.close
     (tie.spec
     course-of-requires

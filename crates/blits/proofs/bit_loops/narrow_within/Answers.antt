@@ -1,0 +1,55 @@
+-- The loop keeps `Rowed`: k rows are drawn and the rest are as before. Each turn is one row more, by `rowed-turn`.
+-- A place in the source is a bit: that of its byte, eight times, and the same bit of a byte for all rows.
+use mathlib.Core.Path.{refl}
+use mathlib.Core.Bool.{false}
+use mathlib.Core.List.{[]}
+use Prim.Native.Nat.{◌-◌}
+use native.Mathlib.Omega.{arith}
+use Rattle.blits.proofs.Painted.{stippled-within}
+use Rattle.blits.proofs.Rowed.{rowed-start, rowed-turn, rowed-end, row_inside, source-inside, row-far, source-far, bits-next, row_apart}
+use Rattle.blits.proofs.bit_loops.narrow_within.Goals as goal
+
+pub loop-k-init : goal.loop-k-init
+loop-k-init c =
+    let start = c.before.before in
+    λ back other. rowed-start _ back _ _ _ other _ _ _ _ _ _ start.requires.1 (λ _. start.requires.2) (omega arith)
+
+pub narrow_apart-requires : goal.narrow_apart-requires
+narrow_apart-requires c =
+    let at = c.before.before in
+    let start = at.before.before.before in
+    let r = at.loop-k.invariant false [] in (
+      start.requires.0,
+      at.inks-inks.ensures,
+      row_inside r (omega arith),
+      record { in-byte = omega arith; within = source-inside r (omega arith) refl },
+      row_apart _ _ r refl (omega arith) (omega arith) start.requires.3,
+    )
+
+pub along-to-requires : goal.along-to-requires
+along-to-requires c = row-far (c.loop-k.invariant false []) (omega arith)
+
+pub along-byte-requires : goal.along-byte-requires
+along-byte-requires c = omega (arith, source-far (c.loop-k.invariant false []) (omega arith) refl)
+
+pub overflow_add-k : goal.overflow_add-k
+overflow_add-k c = omega arith
+
+pub loop-k-smaller : goal.loop-k-smaller
+loop-k-smaller c = omega arith
+
+pub loop-k-preserved : goal.loop-k-preserved
+loop-k-preserved c =
+    let done = c.before.before.before.before in
+    let at = done.before.before.before in
+    λ back other.
+    let r = at.loop-k.invariant back other in
+    rowed-turn r (omega arith) _ _ _ done.narrow_apart.auto.buffer c.along-to.ensures
+    (λ _. bits-next _ _ r refl (omega arith) (omega arith) _ c.along-byte.ensures)
+    (stippled-within back _ _ _ _ _ _ (done.narrow_apart.ensures back) other)
+
+pub shape_of-buffer : goal.shape_of-buffer
+shape_of-buffer c = (c.loop-k.invariant false []).long
+
+pub returns : goal.returns
+returns c = λ back other. rowed-end (c.loop-k.invariant back other) (omega arith)

@@ -1,0 +1,41 @@
+-- The loop keeps `Rowed`: k rows are drawn and the rest are as before. Each turn is one row more, by `rowed-turn`.
+use mathlib.Core.Path.{refl}
+use mathlib.Core.List.{[]}
+use Prim.Native.Nat.{◌-◌}
+use native.Mathlib.Omega.{arith}
+use Rattle.blits.proofs.Painted.{shifted-from}
+use Rattle.blits.proofs.Rowed.{rowed-start, rowed-turn, rowed-end, row_inside, source-inside, row-far, source-far}
+use Rattle.blits.proofs.row_loops.move_short_rows.Goals as goal
+
+pub loop-k-init : goal.loop-k-init
+loop-k-init c =
+    let start = c.before in
+    λ other. rowed-start _ _ _ _ _ other _ _ _ _ _ _ start.requires.2 (λ _. start.requires.3) refl
+
+pub along-to-requires : goal.along-to-requires
+along-to-requires c = row-far (c.loop-k.invariant []) (omega arith)
+
+pub along-source-requires : goal.along-source-requires
+along-source-requires c = source-far (c.loop-k.invariant []) (omega arith) refl
+
+pub overflow_add-k : goal.overflow_add-k
+overflow_add-k c = omega arith
+
+pub loop-k-smaller : goal.loop-k-smaller
+loop-k-smaller c = omega arith
+
+pub loop-k-preserved : goal.loop-k-preserved
+loop-k-preserved c =
+    let done = c.before.before.before.before in
+    let rowed = done.loop-k.invariant in
+    let start = done.before.before.before.before.before in
+    λ other.
+    let r = rowed other in
+    rowed-turn r (omega arith) _ _ _ done.move_short_row.auto.buffer c.along-to.ensures (λ _ _. c.along-source.ensures)
+    (shifted-from _ _ _ _ _ _ _ (row_inside r (omega arith)) (source-inside r (omega arith) refl) (done.move_short_row.ensures start.requires.0 start.requires.1) other)
+
+pub shape_of-buffer : goal.shape_of-buffer
+shape_of-buffer c = (c.loop-k.invariant []).long
+
+pub returns : goal.returns
+returns c = λ other. rowed-end (c.loop-k.invariant other) (omega arith)

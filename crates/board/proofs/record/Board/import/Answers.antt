@@ -1,0 +1,28 @@
+-- A malformed record is refused before the slots are asked (`import-malformed`); else their answer is given, with the
+-- record as it was (`import-by`).
+use Rattle.board.proofs.Imports.{import-malformed, import-by}
+use Rattle.board.specs.Record.{well_formed}
+use Rattle.slots.specs.Picturing.{import_report}
+use borrow.Author.Tests.{not-true, not-false}
+use mathlib.Core.Bool.{true}
+use mathlib.Core.Path.{◌≡◌, ap, sym, ◌∙◌}
+use borrow.Author.Rules.{rules}
+use Rattle.board.proofs.record.Board.import.Goals as goal
+
+well : (c : goal.Else-not-well_formed) → well_formed c.args.self ≡ true
+well c = sym c.well_formed-2.ensures ∙ not-false _ c.if-not-well_formed.false-raw
+
+pub returns-then-not-well_formed : goal.returns-then-not-well_formed
+returns-then-not-well_formed c = import-malformed _ _ _ _ (sym c.well_formed-2.ensures ∙ not-true _ c.if-not-well_formed.true-raw)
+
+pub slot-requires : goal.slot-requires
+slot-requires c = search rules
+
+pub returns : goal.returns
+returns c =
+    let done = c.before.before in
+    let o = done.before.before in
+    let s = o.args in
+    import-by _ _ _ _ (well o.before) _
+    (done.import_into.ensures
+    ∙ ap (λ a. import_report s.self.sizes a s.self.pending s.number s.picture.now s.buffer.now) o.slot.ensures)

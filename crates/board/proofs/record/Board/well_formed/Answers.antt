@@ -1,0 +1,15 @@
+use Rattle.board.specs.Record.{well_formed}
+use Rattle.board.proofs.record.Board.well_formed.Goals as goal
+
+pub returns : goal.returns
+unfolding well_formed
+returns c =
+    let e = c.before.before.before.before in
+    rw (
+      e.in_limits.ensures,
+      e.well_formed.ensures,
+      c.fill_ok.ensures,
+      c.well_formed-3.ensures,
+      c.well_formed-4.ensures,
+      c.order_ok.ensures,
+    )

@@ -1,0 +1,4 @@
+use Rattle.commands.proofs.Engine.fresh.Goals as goal
+
+pub returns : goal.returns
+returns c = rw c.fresh.ensures

@@ -1,0 +1,4 @@
+use Rattle.entries.proofs.fields.pattern_control_of.Goals as goal
+
+pub returns : goal.returns
+returns c = rw c.pattern_length.ensures

@@ -1,0 +1,17 @@
+-- Four stores one after the other are one run of four bytes (`set-four`).
+use native.Mathlib.Omega.{arith}
+use lib.ListN.{length-set}
+use Rattle.packing.proofs.Runs.{set-four}
+use Rattle.packing.proofs.writing.put_word.Goals as goal
+
+pub bounds-out-at-2 : goal.bounds-out-at-2
+bounds-out-at-2 c = simp length-set (omega arith)
+
+pub bounds-out-at-3 : goal.bounds-out-at-3
+bounds-out-at-3 c = simp length-set (omega arith)
+
+pub bounds-out-at-4 : goal.bounds-out-at-4
+bounds-out-at-4 c = simp length-set (omega arith)
+
+pub returns : goal.returns
+returns c = set-four c.args.out.now c.args.at _ _ _ _

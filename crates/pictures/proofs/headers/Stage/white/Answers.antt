@@ -1,0 +1,29 @@
+-- White space starts the next number where the last one is as wanted, and goes on before a number; else no header begins so. The
+-- law of each stage says so.
+use native.Mathlib.Omega.{arith}
+use Rattle.pictures.proofs.Stages.{before-grey, white-start, white-white, white-number, white-broken, broken-stays}
+use Rattle.pictures.proofs.headers.Stage.white.Goals as goal
+
+pub overflow_add-next : goal.overflow_add-next
+overflow_add-next c =
+    let number = c.self-in-Number-1.given.0 in
+    omega (arith, before-grey number.1.0 c.wanted-n.result number.0 c.if-v-n.true)
+
+pub returns-in-Start : goal.returns-in-Start
+returns-in-Start c = λ b e. rw c.in-Start.is (white-start _ _ b e)
+
+pub returns-in-White : goal.returns-in-White
+returns-in-White c = λ b e. rw c.in-White.is (white-white _ _ b e _)
+
+pub returns-then-v-n : goal.returns-then-v-n
+returns-then-v-n c =
+    λ b e. rw c.in-Number.is
+    (white-number _ _ b e _ _ _ c.wanted-n.ensures c.if-v-n.true)
+
+pub returns-else-v-n : goal.returns-else-v-n
+returns-else-v-n c =
+    λ b e. rw c.in-Number.is
+    (white-broken _ _ b e _ _ _ c.wanted-n.ensures c.if-v-n.false)
+
+pub returns-in-Broken : goal.returns-in-Broken
+returns-in-Broken c = λ b e. rw c.in-Broken.is (broken-stays _ _ b)

@@ -1,0 +1,12 @@
+use mathlib.Core.Path.{◌≡◌}
+use Prim.Native.Nat.{◌-◌, ◌%◌}
+use Rattle.rows.specs.Rows.{covered}
+use Rattle.lemmas.proofs.Sweeps.{Swept}
+use Rattle.rows.proofs.Tiles.{again}
+use Rattle.rows.proofs.tiled.cover_blocks.Given as goal
+
+abbrev pub invariant-loop-k : goal.invariant-loop-k
+invariant-loop-k l = (l.k % 32 ≡ 0) × Swept (λ k'. again (covered l.q) k' l.initial.buffer l.at l.pixels) l.n l.initial.buffer l.buffer l.k
+
+abbrev pub decreases-loop-k : goal.decreases-loop-k
+decreases-loop-k l = l.n - l.k

@@ -1,0 +1,17 @@
+-- At most sixteen pixels are the first sixteen bytes as they stand (`few-tiled`).
+use native.Mathlib.Omega.{arith}
+use Rattle.rows.specs.Rows.{covered}
+use Rattle.rows.proofs.Tiles.{few-tiled}
+use Rattle.rows.proofs.tiled.cover_row.Goals as goal
+
+pub returns-then-n-lt8 : goal.returns-then-n-lt8
+returns-then-n-lt8 c =
+    let a = c.args in
+    few-tiled (covered a.q) a.n a.buffer.now a.at a.source.now a.from a.last _ (omega arith)
+    c.cover_bytes.ensures
+
+pub returns-then-n-le16 : goal.returns-then-n-le16
+returns-then-n-le16 c =
+    let a = c.args in
+    few-tiled (covered a.q) a.n a.buffer.now a.at a.source.now a.from a.last _ (omega arith)
+    c.cover_short.ensures

@@ -1,0 +1,17 @@
+-- `strokes::ranges::below` meets its contract. No pixel lies below c where the axis starts there or past it (`below_none`),
+-- each does where it ends below c (`below_all`), and between the two `count` counts them (`below-count`).
+-- Assumes nothing.
+use Rattle.strokes.proofs.Crossings.{below_none, below_all, below-count}
+use Rattle.strokes.proofs.ranges.below.Goals as goal
+
+pub returns-then-c-a : goal.returns-then-c-a
+returns-then-c-a c = below_none _ _ _ _ c.before.pre.0.some c.before.pre.1 c.if-c-a.taken
+
+pub returns-then-b-c : goal.returns-then-b-c
+returns-then-b-c c = let s = c.before.before in below_all _ _ _ _ s.pre.0.some s.pre.1 c.if-b-c.taken
+
+pub returns : goal.returns
+returns c =
+    let e = c.before.before in
+    let s = e.before in
+    below-count _ _ _ _ s.pre.0.some s.pre.1 _ e.if-c-a.left c.count.ensures
