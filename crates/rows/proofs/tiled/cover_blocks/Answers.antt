@@ -2,7 +2,6 @@
 use native.Mathlib.Omega.{arith}
 use borrow.Author.Rules.{rules}
 use mathlib.Core.Path.{refl, ◌∙◌}
-use Prim.Native.Nat.{◌-◌}
 use Rattle.rows.specs.Rows.{covered}
 use Rattle.lemmas.proofs.Sweeps.{sweep-start, swept-start, swept-turn, swept-end}
 use Rattle.rows.proofs.Tiles.{block_more}
