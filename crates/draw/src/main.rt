@@ -3,9 +3,12 @@
 
 #![tactic(auto)]
 
+ghost use Rattle.std.specs.Io.{ReadsAtMost};
+
 use answers::Status;
 use board::{Answer, Board};
-use libc::{STDIN_FILENO, STDOUT_FILENO};
+use std::io;
+use std::io::Read;
 
 // The call that refuses the input, or the run. `more` is what follows the first 20,480 bytes.
 fn draw(list: &[u8], read: usize, more: usize, display: &mut [u8], virt: &mut [u8]) -> Answer {
@@ -26,19 +29,31 @@ fn draw(list: &[u8], read: usize, more: usize, display: &mut [u8], virt: &mut [u
     }
 }
 
-fn print_answer(a: Answer) {
+// Reads until the buffer is full or the input ends, and returns how many bytes that were.
+fn read_full<R: Read>(input: &mut R, buffer: &mut [u8]) -> io::Result<usize>
+    ensures { ReadsAtMost result buffer.new }
+{
+    let mut read = 0;
+    while read < buffer.len() {
+        let n = input.read(&mut buffer[read..])?;
+        if n == 0 {
+            break;
+        }
+        read += n;
+    }
+    Ok(read)
+}
+
+fn print_answer(rt: &impl Print, a: Answer) -> io::Result<()> {
     let status = a.status;
     let b = a.board;
     let s = b.active;
-    io::write_all(STDOUT_FILENO, b"answer ");
-    io::print_decimal(STDOUT_FILENO, status.number() as u64);
-    io::write_all(STDOUT_FILENO, b" steps ");
-    io::print_decimal(STDOUT_FILENO, status.steps());
-    if s.taken {
-        io::write_all(STDOUT_FILENO, b" paused\n");
-    } else {
-        io::write_all(STDOUT_FILENO, b" idle\n");
-    }
+    let state = if s.taken { "paused" } else { "idle" };
+    println!(rt;
+        "answer {} steps {} {state}",
+        status.number(),
+        status.steps()
+    )
 }
 
 fn digit(d: u8) -> u8 {
@@ -47,31 +62,31 @@ fn digit(d: u8) -> u8 {
 }
 
 // A pixel in two upper-case hexadecimal digits, and what follows it.
-fn print_pixel(byte: u8, last: bool) {
+fn print_pixel(rt: &impl Print, byte: u8, last: bool) -> io::Result<()> {
     let text = [
         digit(byte / 16),
         digit(byte),
         if last { b'\n' } else { b' ' },
     ];
-    io::write_all(STDOUT_FILENO, &text);
+    rt.write_all(&text)
 }
 
-fn print_picture(display: &[u8; 32]) {
-    let mut k: usize = 0;
-    while k < 32 {
-        print_pixel(display[k], k % 8 == 7);
-        k += 1;
+fn print_picture(rt: &impl Print, display: &[u8; 32]) -> io::Result<()> {
+    for k in 0..32 {
+        print_pixel(rt, display[k], k % 8 == 7)?;
     }
+    Ok(())
 }
 
-fn main() {
+fn main(rt: HostRuntime) -> io::Result<()> {
     let mut list = [0u8; 20480];
     let mut rest = [0u8; 1];
     let mut display = [0u8; 32];
     let mut virt = [0u8; 32];
-    let read = io::read_full(STDIN_FILENO, &mut list);
-    let more = io::read_full(STDIN_FILENO, &mut rest);
+    let mut input = rt.stdin();
+    let read = read_full(&mut input, &mut list)?;
+    let more = read_full(&mut input, &mut rest)?;
     let answer = draw(&list, read, more, &mut display, &mut virt);
-    print_answer(answer);
-    print_picture(&display);
+    print_answer(&rt, answer)?;
+    print_picture(&rt, &display)
 }

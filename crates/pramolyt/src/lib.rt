@@ -17,8 +17,7 @@ use feeds::Feed;
 use image::{FILL, WORDS, decode, decode_bare, encode, encode_bare, flags_ok};
 use packing::{pack, unpack};
 
-#[unsafe(no_mangle)]
-pub extern "C" fn pramolyt_make_r2(
+pub fn pramolyt_make_r2(
     board: &mut [u32; WORDS],
     width: usize,
     height: usize,
@@ -32,8 +31,7 @@ pub extern "C" fn pramolyt_make_r2(
     status.number()
 }
 
-#[unsafe(no_mangle)]
-pub extern "C" fn pramolyt_post_r2(
+pub fn pramolyt_post_r2(
     board: &mut [u32; WORDS],
     place: &mut u64,
     list: &[u8],
@@ -55,8 +53,7 @@ pub extern "C" fn pramolyt_post_r2(
     status.number()
 }
 
-#[unsafe(no_mangle)]
-pub extern "C" fn pramolyt_store_r2(
+pub fn pramolyt_store_r2(
     board: &mut [u32; WORDS],
     list: &mut [u8],
     first: usize,
@@ -75,8 +72,7 @@ pub extern "C" fn pramolyt_store_r2(
     status.number()
 }
 
-#[unsafe(no_mangle)]
-pub extern "C" fn pramolyt_window_write_r2(
+pub fn pramolyt_window_write_r2(
     board: &mut [u32; WORDS],
     number: usize,
     offset: usize,
@@ -96,8 +92,7 @@ pub extern "C" fn pramolyt_window_write_r2(
     status.number()
 }
 
-#[unsafe(no_mangle)]
-pub extern "C" fn pramolyt_export_r2(
+pub fn pramolyt_export_r2(
     board: &mut [u32; WORDS],
     written: &mut u64,
     number: usize,
@@ -119,8 +114,7 @@ pub extern "C" fn pramolyt_export_r2(
     status.number()
 }
 
-#[unsafe(no_mangle)]
-pub extern "C" fn pramolyt_import_r2(
+pub fn pramolyt_import_r2(
     board: &mut [u32; WORDS],
     number: usize,
     picture: &[u8],
@@ -177,8 +171,7 @@ fn hatch_image(
     }
 }
 
-#[unsafe(no_mangle)]
-pub extern "C" fn pramolyt_run_r2(
+pub fn pramolyt_run_r2(
     board: &mut [u32; WORDS],
     steps: &mut u64,
     budget: u64,
@@ -218,8 +211,7 @@ pub extern "C" fn pramolyt_run_r2(
     status.number()
 }
 
-#[unsafe(no_mangle)]
-pub extern "C" fn pramolyt_feed_start_fields_r2(
+pub fn pramolyt_feed_start_fields_r2(
     next: &mut u64,
     held: &mut [u8; 4],
     count: &mut u32,
@@ -234,8 +226,7 @@ pub extern "C" fn pramolyt_feed_start_fields_r2(
     *count = feed.count;
 }
 
-#[unsafe(no_mangle)]
-pub extern "C" fn pramolyt_feed_fields_r2(
+pub fn pramolyt_feed_fields_r2(
     board: &mut [u32; WORDS],
     next: &mut u64,
     held: &mut [u8; 4],
@@ -266,13 +257,7 @@ pub extern "C" fn pramolyt_feed_fields_r2(
     status.number()
 }
 
-#[unsafe(no_mangle)]
-pub extern "C" fn pramolyt_pack_r2(
-    written: &mut u64,
-    place: &mut u64,
-    input: &[u8],
-    output: &mut [u8],
-) -> u32
+pub fn pramolyt_pack_r2(written: &mut u64, place: &mut u64, input: &[u8], output: &mut [u8]) -> u32
     ensures { filed result written.new place.new output.new ≡ pack_file input.now output.old }
 {
     let status = pack(input, output);
@@ -281,8 +266,7 @@ pub extern "C" fn pramolyt_pack_r2(
     status.number()
 }
 
-#[unsafe(no_mangle)]
-pub extern "C" fn pramolyt_unpack_r2(
+pub fn pramolyt_unpack_r2(
     written: &mut u64,
     place: &mut u64,
     input: &[u8],

@@ -4,39 +4,32 @@
 #![tactic(auto)]
 
 use board::{Answer, Board};
-use libc::STDOUT_FILENO;
 use slots::Slot;
+use std::io;
 
-fn print_slot(name: &[u8], s: Slot) {
+fn print_slot(rt: &impl Print, name: &str, s: Slot) -> io::Result<()> {
     let list = s.span;
-    io::write_all(STDOUT_FILENO, name);
     if s.taken {
-        io::print_decimal(STDOUT_FILENO, list.start as u64);
-        io::write_all(STDOUT_FILENO, b"+");
-        io::print_decimal(STDOUT_FILENO, list.count as u64);
+        print!(rt; "{name}{}+{}", list.start, list.count)
     } else {
-        io::write_all(STDOUT_FILENO, b"free");
+        print!(rt; "{name}free")
     }
 }
 
 // The answer and the steps; then the active list as start+count with its next entry, and the pending list.
-fn tell(call: &[u8], a: Answer) {
+fn tell(rt: &impl Print, call: &str, a: Answer) -> io::Result<()> {
     let status = a.status;
     let b = a.board;
     let active = b.active;
     let cursor = active.cursor;
-    io::write_all(STDOUT_FILENO, call);
-    io::print_decimal(STDOUT_FILENO, status.number() as u64);
-    io::write_all(STDOUT_FILENO, b" steps ");
-    io::print_decimal(STDOUT_FILENO, status.steps());
-    print_slot(b" active ", active.slot());
-    io::write_all(STDOUT_FILENO, b" next ");
-    io::print_decimal(STDOUT_FILENO, cursor.next as u64);
-    print_slot(b" pending ", b.pending);
-    io::write_all(STDOUT_FILENO, b"\n");
+    print!(rt; "{call}{} steps {}", status.number(), status.steps())?;
+    print_slot(rt, " active ", active.slot())?;
+    print!(rt; " next {}", cursor.next)?;
+    print_slot(rt, " pending ", b.pending)?;
+    rt.write_all(b"\n")
 }
 
-fn main() {
+fn main(rt: HostRuntime) -> io::Result<()> {
     let mut list = [0u8; 20480];
     let entry = [8u8, 0, 0, 0, 7];
     let mut display = [0u8; 32];
@@ -53,26 +46,26 @@ fn main() {
     let made = Board::make(8, 4, 4096);
     let b0 = made.board;
     let a1 = b0.post(&list, 0, 4);
-    tell(b"post ", a1);
+    tell(&rt, "post ", a1)?;
     let b1 = a1.board;
     let a2 = b1.post(&list, 0, 4);
-    tell(b"post ", a2);
+    tell(&rt, "post ", a2)?;
     let b2 = a2.board;
     let a3 = b2.post(&list, 0, 4);
-    tell(b"post ", a3);
+    tell(&rt, "post ", a3)?;
     let b3 = a3.board;
     let a4 = b3.run(9, &list, &mut display, &mut virt);
-    tell(b"run ", a4);
+    tell(&rt, "run ", a4)?;
     let b4 = a4.board;
     let a5 = b4.run(3, &list, &mut display, &mut virt);
-    tell(b"run ", a5);
+    tell(&rt, "run ", a5)?;
     let b5 = a5.board;
     let a6 = b5.store(&mut list, 0, &entry);
-    tell(b"store ", a6);
+    tell(&rt, "store ", a6)?;
     let b6 = a6.board;
     let a7 = b6.run(100, &list, &mut display, &mut virt);
-    tell(b"run ", a7);
+    tell(&rt, "run ", a7)?;
     let b7 = a7.board;
     let a8 = b7.store(&mut list, 0, &entry);
-    tell(b"store ", a8);
+    tell(&rt, "store ", a8)
 }
