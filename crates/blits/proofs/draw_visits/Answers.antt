@@ -1,10 +1,8 @@
 -- The loop keeps `Visiting`: k visits are done, and the next stands in its row and column. Each turn is a box of the visits that
 -- are drawn at once (`visiting-part`, `part-visits`), after which the next stands in a new row (`visiting-turn`).
 use borrow.Author.Rules.{rules}
-use Prim.Native.Nat.{◌-◌, ◌<◌}
+use Prim.Native.Nat.{◌<◌}
 use native.Mathlib.Omega.{arith}
-use Rattle.geometry.specs.Blit.{width_of}
-use Rattle.blits.specs.Blits.{AtOnce}
 use Rattle.blits.proofs.Loops.{across-some, visiting-start, visiting-far, visiting-narrow, visiting-low, visiting-part, visiting-more, visiting-turn, visiting-end}
 use Rattle.blits.proofs.RowBoxes.{part-fits, part-visits}
 use Rattle.blits.proofs.draw_visits.Goals as goal

@@ -1,7 +1,6 @@
 -- The loop keeps `Expanding`, as in `expand`; no visit writes the bits that are read, by `unwritten-bits`.
 use native.Mathlib.Omega.{arith}
 use mathlib.Core.Path.{refl}
-use Prim.Native.Nat.{◌-◌}
 use Rattle.blits.proofs.Expanded.{expanding-start, expanding-fits, expanding-turn, expanding-rest, expanding-end, unwritten-bits}
 use Rattle.blits.proofs.bits.expand_apart.Goals as goal
 

@@ -1,6 +1,5 @@
 -- The loop keeps `OneByOne`, as in `expand_each`, from the last pixel to the first: p is the bit after that of the next pixel.
 use native.Mathlib.Omega.{arith}
-use Prim.Native.Nat.{◌-◌}
 use Rattle.blits.proofs.Expanded.{one-start, one-turn, one_end}
 use Rattle.blits.proofs.bits.expand_back.Goals as goal
 

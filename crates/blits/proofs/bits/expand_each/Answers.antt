@@ -1,6 +1,5 @@
 -- The loop keeps `OneByOne`: k pixels are drawn, and p is the bit of the next. Each turn is one pixel more, by `one-turn`.
 use native.Mathlib.Omega.{arith}
-use Prim.Native.Nat.{◌-◌}
 use Rattle.blits.proofs.Expanded.{one-start, one-turn, one_end}
 use Rattle.blits.proofs.bits.expand_each.Goals as goal
 

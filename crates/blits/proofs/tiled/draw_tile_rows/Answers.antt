@@ -1,7 +1,7 @@
 -- The loop keeps `Visiting`, with the covered buffer as its source: k visits are done, and the next stands in its row and column. Each
 -- turn is a box of the tile, of the visits that are drawn at once (`part-tile`, `part-visits`, `visiting-turn`).
 use borrow.Author.Rules.{rules}
-use Prim.Native.Nat.{◌-◌, ◌<◌}
+use Prim.Native.Nat.{◌<◌}
 use native.Mathlib.Omega.{arith}
 use Rattle.blits.specs.Tiled.{copy_of}
 use Rattle.blits.proofs.Loops.{across-some, visiting-start, visiting-far, visiting-narrow, visiting-low, visiting-part, visiting-more, visiting-turn, visiting-end}
