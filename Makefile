@@ -27,14 +27,20 @@ under_prefix = $(patsubst $(PREFIX)/%,$${prefix}/%,$(1))
 
 .PHONY: all check tool install install-library install-tool uninstall
 
+# prove_and_build: the archive; rt proves again only what has changed
+define prove_and_build
+cd crates/pramolyt_c && rt lib
+install -D -m 644 crates/pramolyt_c/out/libpramolyt_c.a $(archive)
+endef
+
 all:
-	rt staticlib pramolyt
+	$(prove_and_build)
 
 check:
 	.ci/run
 
 $(archive):
-	rt staticlib pramolyt
+	$(prove_and_build)
 
 tool: $(archive)
 	$(CARGO) build --offline --quiet --release --manifest-path rust/Cargo.toml -p tool

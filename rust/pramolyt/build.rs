@@ -11,7 +11,7 @@ fn main() {
     println!("cargo::rerun-if-changed={}", archive.display());
     if !archive.is_file() {
         eprintln!(
-            "There is no {}.\nProve and build it first: run `rt staticlib pramolyt` in the project's root,\n\
+            "There is no {}.\nProve and build it first: run `make` in the project's root,\n\
              or name the folder that has it in PRAMOLYT_LIB.",
             archive.display()
         );
