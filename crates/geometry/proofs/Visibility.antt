@@ -7,7 +7,7 @@ use Prim.Native.Nat.{ℕ, zero, suc, ◌+◌, ◌-◌, ◌*◌, ◌/◌, ◌%◌
 use native.Mathlib.Nat.{mul-suc, mul-zero, mul_comm, mul-le-mul, mul-le-mul_left, mul-add-div, mul-add-mod_self_left, mod-eq_of_lt, div-eq_of_lt}
 use native.Mathlib.Omega.{arith}
 use borrow.Author.Tests.{eqb-true, eqb-false, eq-eqb, ne_eqb, leb-true, leb-false, lt-ltb, le-ltb}
-use lib.Dec.{eqb, leb, ltb}
+use lib.Dec.{eqb, leb}
 use Rattle.lemmas.specs.Numbers.{numbers, below, filtered}
 use Rattle.lemmas.proofs.Booleans.{by_cases, and_left, and_right}
 use Rattle.lemmas.proofs.Numbers.{map-agree, map-numbers, map-append, numbers-join, filtered-append, filtered-map, filtered-agree, filtered-none, filtered-span}

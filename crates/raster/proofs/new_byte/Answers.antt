@@ -5,7 +5,6 @@
 use borrow.Author.Rules.{rules}
 use native.Mathlib.Omega.{arith}
 use mathlib.Core.Path.{ap, ◌∙◌}
-use Prim.Native.Nat.{◌-◌}
 use Rattle.lemmas.proofs.Turns.{turn-none, turn_end}
 use Rattle.raster.proofs.Rule.{next-turn, masked, rule}
 use Rattle.raster.proofs.new_byte.Goals as goal
