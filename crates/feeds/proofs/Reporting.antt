@@ -1,15 +1,15 @@
 -- What a piece answers, by the tests that it passes, and that a refusal leaves all as it was.
 -- Assumes nothing.
 use mathlib.Core.Path.{◌≡◌, refl, ap, ap₂, sym, ◌∙◌}
-use mathlib.Core.Bool.{Bool, true, false, cond, ◌&&◌, ◌||◌, false≢true}
+use mathlib.Core.Bool.{Bool, true, false, cond, ◌&&◌, ◌||◌}
 use mathlib.Core.List.{List}
-use Prim.Native.Nat.{ℕ, zero, suc, ◌+◌, ◌*◌, ◌/◌, ◌%◌, ◌-◌, ◌≤◌, ◌<◌}
+use Prim.Native.Nat.{ℕ, ◌+◌, ◌*◌, ◌/◌, ◌%◌, ◌-◌, ◌≤◌, ◌<◌}
 use native.Mathlib.Omega.{arith}
-use borrow.Author.Tests.{eqb-true, eqb-false, lt-leb, leb-true, ltb-true, ltb-false, eq-eqb, ne_eqb}
+use borrow.Author.Tests.{leb-true, ltb-true, ltb-false, eq-eqb, ne_eqb}
 use lib.Dec.{eqb, leb, ltb}
 use lib.ListN.{length}
 use Rattle.lemmas.proofs.Booleans.{by_cases, and_left, and_right, both, or-none-left, or-none-right, of_either}
-use Rattle.answers.specs.Reports.{Report, report, report_of}
+use Rattle.answers.specs.Reports.{Report, report}
 use Rattle.lemmas.specs.Memory.{put_into}
 use Rattle.slots.specs.Calls.{Lent, leaves, holds_any, store_report}
 use Rattle.slots.specs.declared.record.Sizes.{Sizes}
@@ -18,7 +18,7 @@ use Rattle.slots.proofs.Grounds.{NumberAlone, store-wrong-size, store-past, stor
 use Rattle.feeds.specs.declared.Feed.{Feed}
 use Rattle.feeds.specs.Feeds.{LentFeed, held_ok, feed_ok, joined, entries_in, completed, advanced, outcome, placed_by, by_store, feed_report, accepted}
 use Rattle.feeds.proofs.Bytes.{length-completed}
-use Rattle.feeds.proofs.Stores.{free_of, Fits, Done, fits-done, accepted-fits}
+use Rattle.feeds.proofs.Stores.{free_of, Fits, fits-done, accepted-fits}
 
 pub good-next : (z : Sizes) (f : Feed) → feed_ok z f ≡ true → f.next ≤ z.entries
 good-next z f ok = leb-true f.next z.entries (and_right (held_ok f) (leb f.next z.entries) ok)

@@ -1,5 +1,5 @@
 -- A refusal is the ground of its test (`read-wrong-size`, `read-refused`); else the pixels from the start that was found are as
--- many as the buffer has, and are copied over it (`read_done`).
+-- many as the buffer has, and are copied over it (`read_all`).
 use mathlib.Core.Path.{sym, ◌∙◌}
 use native.Mathlib.Omega.{arith}
 use Rattle.pictures.proofs.Puts.{part-is}
