@@ -32,6 +32,15 @@ put-copied l bytes part at n h e f =
     (rw (none, append-nil part, f, take-length bytes, part-is l at, drop-drop (length bytes) at l)
     (sym (append_assoc (take at l) bytes (drop (at + length bytes) l)) ∙ sym (sets-eq bytes l at h)))
 
+-- the same over a part as long as the bytes
+pub put-over : (l bytes part : List ℕ) (at : ℕ) → at + length bytes ≤ length l → part ≡ bytes
+    → lent (at + length bytes) (take at l ++ (part ++ drop (at + length bytes - at) (drop at l))) ≡ put_at l at bytes
+put-over l bytes part at h f =
+    let k : at + length bytes - at ≡ length bytes = omega arith in
+    ap (lent (at + length bytes))
+    (rw (f, k, drop-drop (length bytes) at l)
+    (sym (append_assoc (take at l) bytes (drop (at + length bytes) l)) ∙ sym (sets-eq bytes l at h)))
+
 -- the place after bytes that were put
 pub place : {p q : Lent ℕ} → p ≡ q → p.answer ≡ q.answer
 place e = ap (λ (p : Lent ℕ). p.answer) e

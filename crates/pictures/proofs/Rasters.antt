@@ -115,3 +115,12 @@ module _ (w h : ℕ) (l : List ℕ) where
           rw (eq-eqb (length buffer) (w * h) (whole ∙ area), p.0)
           (ap (lent Done)
           (f ∙ rw (part-is l start, take-length x, same, drop-length buffer) (append-nil x ∙ ap (λ (k : ℕ). drop k l) p.1)))
+
+      pub read_all : (start : ℕ) (m : List ℕ) → From start ≡ raster_of w h l → m ≡ take (length l - start) (drop start l)
+          → lent Done m ≡ read_of w h l buffer
+      read_all start m e f =
+          let x = take (length l - start) (drop start l) in
+          let same : length x ≡ length buffer =
+          ap length (part-is l start) ∙ (raster-fits start e).1 ∙ sym (whole ∙ area) in
+          read_done start m e
+          (f ∙ sym (rw (take-length x, same, drop-length buffer) (append-nil x)))

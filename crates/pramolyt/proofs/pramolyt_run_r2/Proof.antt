@@ -43,25 +43,16 @@ free : (c : tie.Joined-holds) →
 free c =
     let s = c.args in
     let j = c.if-holds in
-    let held = sym c.holds.ensures in
     ⊎_elim
     (λ w.
-    free-later s.budget s.list.now s.board.now s.display.now s.virt.now _ _ _ _ w.4.ensures w.9.left
-    j.done w.13
-    j.board j.display j.virt w.10 w.11 w.12)
+    free-later s.budget s.list.now s.board.now s.display.now s.virt.now _ _ _ _ w.hatch_image-h.ensures w.if-h.false
+    j.done w.done-is
+    j.board j.display j.virt w.board-is w.display-is w.virt-is)
     (λ w.
-    free-now s.budget s.list.now s.board.now s.display.now s.virt.now (held
-    ∙ w.0.left) j.done w.4 j.board j.display
-    j.virt w.1 w.2 w.3)
-    j.branch
-
-as_long : (c : tie.Joined-holds) →
-    let s = c.args in
-    (length c.if-holds.display ≡ length s.display.now) × (length c.if-holds.virt ≡ length s.virt.now)
-as_long c =
-    ⊎_elim (λ w. (ap length w.11 ∙ w.4.kept.1.1.1.0, ap length w.12 ∙ w.4.kept.1.1.1.1.0))
-    (λ w. (ap length w.2, ap length w.3))
-    c.if-holds.branch
+    free-now s.budget s.list.now s.board.now s.display.now s.virt.now (sym c.holds.ensures
+    ∙ w.if-holds.false) j.done w.done-is j.board j.display
+    j.virt w.board-is w.display-is w.virt-is)
+    j.branch-raw
 
 decode-bare-requires : tie.Need-decode_bare-b-requires
 decode-bare-requires c κs = search rules
@@ -77,14 +68,12 @@ steps-requires c κs = search rules
 
 add-k : tie.Need-overflow_add-k
 add-k c =
-    let r = c.before.before.before.before.before.before in
-    let b = r.before.before.before.before in
-    let j = b.before.before in
+    let j = c.before.before.before.before.before.before.before.before.before.before.before.before in
     omega (
       arith,
-      lists-few _ _ _ _ _ _ _ _ _ (free j) _ b.decode_bare-b.ensures _ _ _ r.run-ran.ensures _
+      lists-few _ _ _ _ _ _ _ _ _ (free j) _ c.decode_bare-b.ensures _ _ _ c.run-ran.ensures _
           c.steps.ensures,
-      j.ranges.budget,
+      c.ranges.budget,
     )
 
 held-requires : tie.Need-held-requires
@@ -95,59 +84,38 @@ encode-requires c κs = search rules
 
 sub-hatch-image : tie.Need-overflow_sub-budget-then-ran
 sub-hatch-image c =
-    let k = c.before.before.before.before.before.before in
-    let r = k.before.before.before.before.before.before in
-    let b = r.before.before.before.before in
-    lists-few _ _ _ _ _ _ _ _ _ (free b.before.before) _ b.decode_bare.ensures _ _ _ r.run.ensures _ k.steps.ensures
+    let j = c.before.before.before.before.before.before.before.before.before.before.before.before.before.before.before.before in
+    lists-few _ _ _ _ _ _ _ _ _ (free j) _ c.decode_bare-b.ensures _ _ _ c.run-ran.ensures _ c.steps.ensures
 
 hatch-image-requires-2 : tie.Need-hatch_image-h-requires-then-ran
 hatch-image-requires-2 c κs = search rules
 
 add-steps : tie.Need-overflow_add-steps
 add-steps c =
-    let h = c.before.before.before.before.before in
-    let x = h.before.before.before.before in
-    let cut = x.before.before.before.before in
-    let k = cut.before in
-    let r = k.before.before.before.before.before.before in
-    let b = r.before.before.before.before in
-    let j = b.before.before in
+    let j = c.before.before.before.before.before.before.before.before.before.before.before.before.before.before.before.before.before.before.before.before.before.before.before.before in
     omega (
       arith,
-      last-few _ _ _ _ _ _ _ _ _ (free j) _ b.decode_bare.ensures _ _ _ r.run.ensures _ k.steps.ensures cut.if-holds.true
-          (λ i. omega (arith, k.slice_known-2-1.given i)) (λ i. omega
-          (arith, k.slice_known-3-1.given i)) _
-          x.held.ensures _ x.encode.ensures _ _ _ _ h.hatch_image-h-then-ran.ensures,
-      j.ranges.budget,
+      last-few _ _ _ _ _ _ _ _ _ (free j) _ c.decode_bare-b.ensures _ _ _ c.run-ran.ensures _ c.steps.ensures c.if-ran.true
+          (λ i. omega (arith, c.slice_known-3-1.given i)) (λ i. omega
+          (arith, c.slice_known-4-1.given i)) _
+          c.held.ensures _ c.encode.ensures _ _ _ _ c.hatch_image-h-then-ran.ensures,
+      c.ranges.budget,
     )
 
 same-length-3 : tie.Need-shape_of-display-then-ran
-same-length-3 c =
-    let h = c.before.before.before.before.before in
-    let r = h.before.before.before.before.before.before.before.before.before.before.before.before.before.before.before in
-    h.hatch_image-h-then-ran.auto.1.1.1.0 ∙ r.run.auto.1.1.1.0 ∙ (as_long r.before.before.before.before.before.before).0
+same-length-3 c = c.hatch_image-h-then-ran.auto.display ∙ c.run-ran.auto.display ∙ c.if-holds.long-display
 
 same-length-4 : tie.Need-shape_of-virt-then-ran
-same-length-4 c =
-    let h = c.before.before.before.before.before in
-    let r = h.before.before.before.before.before.before.before.before.before.before.before.before.before.before.before in
-    h.hatch_image-h-then-ran.auto.1.1.1.1.0 ∙ r.run.auto.1.1.1.1.0 ∙ (as_long r.before.before.before.before.before.before).1
+same-length-4 c = c.hatch_image-h-then-ran.auto.virt ∙ c.run-ran.auto.virt ∙ c.if-holds.long-virt
 
 returns-3 : tie.Need-returns-then-ran
 returns-3 c =
-    let h = c.before.before.before.before.before in
-    let x = h.before.before.before.before in
-    let cut = x.before.before.before.before in
-    let k = cut.before in
-    let r = k.before.before.before.before.before.before in
-    let b = r.before.before.before.before in
-    let j = b.before.before in
-    let flags = j.before.before in
-    run-done _ _ flags.before.flags_ok.ensures flags.if1.false _ _ _ _ _
-    (last-whole _ _ _ _ _ _ _ _ _ (free j) _ b.decode_bare.ensures _ _ _ r.run.ensures _ k.steps.ensures cut.if-holds.true
-    (λ i. omega (arith, k.slice_known-2-1.given i)) (λ i. omega
-    (arith, k.slice_known-3-1.given i)) _
-    x.held.ensures _ x.encode.ensures _ _ _ _ h.hatch_image-h-then-ran.ensures)
+    let j = c.before.before.before.before.before.before.before.before.before.before.before.before.before.before.before.before.before.before.before.before.before.before.before.before in
+    run-done _ _ c.flags_ok.ensures c.if-not-flags_ok.false-raw _ _ _ _ _
+    (last-whole _ _ _ _ _ _ _ _ _ (free j) _ c.decode_bare-b.ensures _ _ _ c.run-ran.ensures _ c.steps.ensures c.if-ran.true
+    (λ i. omega (arith, c.slice_known-3-1.given i)) (λ i. omega
+    (arith, c.slice_known-4-1.given i)) _
+    c.held.ensures _ c.encode.ensures _ _ _ _ c.hatch_image-h-then-ran.ensures)
 
 encode-bare-requires : tie.Need-encode_bare-requires
 encode-bare-requires c κs = search rules
@@ -156,23 +124,16 @@ number-requires : tie.Need-number-requires
 number-requires c κs = search rules
 
 same-length-5 : tie.Need-shape_of-display
-same-length-5 c = let r = c.before.before.before.before.before.before.before.before.before in r.run.auto.1.1.1.0
-    ∙ (as_long r.before.before.before.before.before.before).0
+same-length-5 c = c.run-ran.auto.display ∙ c.if-holds.long-display
 
 same-length-6 : tie.Need-shape_of-virt
-same-length-6 c = let r = c.before.before.before.before.before.before.before.before.before in r.run.auto.1.1.1.1.0
-    ∙ (as_long r.before.before.before.before.before.before).1
+same-length-6 c = c.run-ran.auto.virt ∙ c.if-holds.long-virt
 
 returns-4 : tie.Need-returns
 returns-4 c =
-    let whole = c.before.before in
-    let k = whole.before in
-    let r = k.before.before.before.before.before.before in
-    let b = r.before.before.before.before in
-    let j = b.before.before in
-    let flags = j.before.before in
-    run-done _ _ flags.flags_ok.ensures flags.if-not-flags_ok.false-raw _ _ _ _ _
-    (lists-whole _ _ _ _ _ _ _ _ _ (free j) _ b.decode_bare-b.ensures _ _ _ r.run-ran.ensures _ k.steps.ensures whole.if-ran.false _
+    let j = c.before.before.before.before.before.before.before.before.before.before.before.before.before.before.before in
+    run-done _ _ c.flags_ok.ensures c.if-not-flags_ok.false-raw _ _ _ _ _
+    (lists-whole _ _ _ _ _ _ _ _ _ (free j) _ c.decode_bare-b.ensures _ _ _ c.run-ran.ensures _ c.steps.ensures c.if-ran.false _
     c.encode_bare.ensures _ c.number.ensures)
 
 pub pramolyt_run_r2_spec : {M : Type 1} → statement M

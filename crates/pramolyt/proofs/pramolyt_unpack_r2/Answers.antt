@@ -4,6 +4,4 @@ use Rattle.pramolyt.proofs.pramolyt_unpack_r2.Goals as goal
 
 pub returns : goal.returns
 returns c =
-    let placed = c.before in
-    let done = placed.before.before.before.before in
-    unpacks-file done.unpack_status.result _ _ _ _ c.number.ensures placed.written.ensures placed.place.ensures _ _ done.unpack_status.ensures
+    unpacks-file c.unpack-status.result _ _ _ _ c.number.ensures c.written.ensures c.place.ensures _ _ c.unpack-status.ensures

@@ -11,38 +11,26 @@ use Rattle.sources.proofs.stippled.Goals as goal
 
 pub returns-in_default : goal.returns-in_default
 returns-in_default c =
-    let first = c.before.before in
-    let s = first.args in
-    stippled-by s.c s.g s.extent s.cell s.buffer.now _ _ first.cell_visit-visit.ensures c.in_default.is
+    let s = c.args in
+    stippled-by s.c s.g s.extent s.cell s.buffer.now _ _ c.cell_visit-visit.ensures c.in_default.is
 
 pub returns-then-p-lt-ORIGIN : goal.returns-then-p-lt-ORIGIN
 returns-then-p-lt-ORIGIN c =
-    let found = c.before.before.before in
-    let first = found.before.before in
-    let s = first.args in
-    left-of-bits s.c s.g s.extent s.buffer.now found.in-At.p c.if-p-lt-ORIGIN.true
-    ∙ stippled-by s.c s.g s.extent s.cell s.buffer.now _ _ first.cell_visit-visit.ensures found.in-At.is
+    let s = c.args in
+    left-of-bits s.c s.g s.extent s.buffer.now c.in-At.p c.if-p-lt-ORIGIN.true
+    ∙ stippled-by s.c s.g s.extent s.cell s.buffer.now _ _ c.cell_visit-visit.ensures c.in-At.is
 
 pub returns-in-At-place_of : goal.returns-in-At-place_of
 returns-in-At-place_of c =
-    let told = c.before.before.before in
-    let o = told.before.before in
-    let right = o.before.before in
-    let found = right.before.before.before in
-    let first = found.before.before in
-    let s = first.args in
-    let p = found.in-At.p in
+    let s = c.args in
+    let p = c.in-At.p in
     c.by_bit.ensures
     ∙ ap (λ v. by_bit s.c s.g (eqb (bit (7 - (p.x - origin) % 8) v) 1)) c.byte_at-value.ensures
-    ∙ bit-by s.c s.g s.extent s.buffer.now _ right.if-p-lt-ORIGIN.false _ _ o.place_of.ensures told.in-At-place_of.is
-    ∙ stippled-by s.c s.g s.extent s.cell s.buffer.now _ _ first.cell_visit-visit.ensures found.in-At.is
+    ∙ bit-by s.c s.g s.extent s.buffer.now _ c.if-p-lt-ORIGIN.false _ _ c.place_of.ensures c.in-At-place_of.is
+    ∙ stippled-by s.c s.g s.extent s.cell s.buffer.now _ _ c.cell_visit-visit.ensures c.in-At.is
 
 pub returns-in-Outside : goal.returns-in-Outside
 returns-in-Outside c =
-    let o = c.before.before in
-    let right = o.before.before in
-    let found = right.before.before.before in
-    let first = found.before.before in
-    let s = first.args in
-    bit-by s.c s.g s.extent s.buffer.now _ right.if-p-lt-ORIGIN.false _ _ o.place_of.ensures c.in-Outside.is
-    ∙ stippled-by s.c s.g s.extent s.cell s.buffer.now _ _ first.cell_visit-visit.ensures found.in-At.is
+    let s = c.args in
+    bit-by s.c s.g s.extent s.buffer.now _ c.if-p-lt-ORIGIN.false _ _ c.place_of.ensures c.in-Outside.is
+    ∙ stippled-by s.c s.g s.extent s.cell s.buffer.now _ _ c.cell_visit-visit.ensures c.in-At.is

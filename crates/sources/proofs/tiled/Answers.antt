@@ -7,25 +7,18 @@ use Rattle.sources.proofs.tiled.Goals as goal
 
 pub returns-in_default : goal.returns-in_default
 returns-in_default c =
-    let first = c.before.before in
-    let s = first.args in
-    tiled-by s.g s.fill s.cell _ _ first.cell_visit-visit.ensures c.in_default.is
+    let s = c.args in
+    tiled-by s.g s.fill s.cell _ _ c.cell_visit-visit.ensures c.in_default.is
 
 pub returns-then-not-fill : goal.returns-then-not-fill
 returns-then-not-fill c =
-    let found = c.before.before.before in
-    let first = found.before.before in
-    let s = first.args in
-    tile-missing s.fill found.in-At.p (not-true s.fill.whole c.if-not-fill.true)
-    ∙ tiled-by s.g s.fill s.cell _ _ first.cell_visit-visit.ensures found.in-At.is
+    let s = c.args in
+    tile-missing s.fill c.in-At.p (not-true s.fill.whole c.if-not-fill.true)
+    ∙ tiled-by s.g s.fill s.cell _ _ c.cell_visit-visit.ensures c.in-At.is
 
 pub returns : goal.returns
 returns c =
-    let down = c.before in
-    let whole = down.before.before.before in
-    let found = whole.before.before.before in
-    let first = found.before.before in
-    let s = first.args in
-    tile-pixel s.fill found.in-At.p (not-false s.fill.whole whole.if-not-fill.false) _ _ _ down.saturating_sub.ensures
-    down.saturating_sub-2.ensures c.pixel-value.ensures
-    ∙ tiled-by s.g s.fill s.cell _ _ first.cell_visit-visit.ensures found.in-At.is
+    let s = c.args in
+    tile-pixel s.fill c.in-At.p (not-false s.fill.whole c.if-not-fill.false) _ _ _ c.saturating_sub.ensures
+    c.saturating_sub-2.ensures c.pixel-value.ensures
+    ∙ tiled-by s.g s.fill s.cell _ _ c.cell_visit-visit.ensures c.in-At.is

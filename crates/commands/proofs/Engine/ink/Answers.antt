@@ -14,15 +14,12 @@ returns-in_default-place c =
 
 pub returns-then-at-buffer : goal.returns-then-at-buffer
 returns-then-at-buffer c =
-    let o = c.before.before.before in
-    let at = o.before.before.before in
-    let s = at.args in
-    ink-at s.self s.buffer.now _ _ _ _ o.command_of-c.ensures c.mixed.ensures
-    ∙ ink-value s.self s.buffer.now _ _ _ _ at.in-Value.is at.in-At.is
+    let s = c.args in
+    ink-at s.self s.buffer.now _ _ _ _ c.command_of-c.ensures c.mixed.ensures
+    ∙ ink-value s.self s.buffer.now _ _ _ _ c.in-Value.is c.in-At.is
 
 pub returns-else-at-buffer : goal.returns-else-at-buffer
 returns-else-at-buffer c =
-    let at = c.before.before.before.before in
-    let s = at.args in
+    let s = c.args in
     ink-past s.self s.buffer.now _ _ c.if-at-buffer.false
-    ∙ ink-value s.self s.buffer.now _ _ _ _ at.in-Value.is at.in-At.is
+    ∙ ink-value s.self s.buffer.now _ _ _ _ c.in-Value.is c.in-At.is

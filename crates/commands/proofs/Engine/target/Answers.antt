@@ -7,26 +7,19 @@ use Rattle.commands.proofs.Engine.target.Goals as goal
 
 pub returns-in_default : goal.returns-in_default
 returns-in_default c =
-    let o = c.before.before in
-    let s = o.args in
-    target-by s.extent s.self s.k s.cell _ _ o.position-visit.ensures c.in_default.is
+    let s = c.args in
+    target-by s.extent s.self s.k s.cell _ _ c.position-visit.ensures c.in_default.is
 
 pub returns-then-c-contains : goal.returns-then-c-contains
 returns-then-c-contains c =
-    let seen = c.before.before.before in
-    let found = seen.before.before in
-    let o = found.before.before in
-    let s = o.args in
+    let s = c.args in
     clipped s.extent s.self.registers _
-    (clip-is s.self _ o.command_of-c.ensures _ _ _ seen.rect_of.ensures c.contains.ensures true c.if-c-contains.true)
-    ∙ target-by s.extent s.self s.k s.cell _ _ o.position-visit.ensures found.in-At.is
+    (clip-is s.self _ c.command_of-c.ensures _ _ _ c.rect_of.ensures c.contains.ensures true c.if-c-contains.true)
+    ∙ target-by s.extent s.self s.k s.cell _ _ c.position-visit.ensures c.in-At.is
 
 pub returns : goal.returns
 returns c =
-    let seen = c.before.before.before.before in
-    let found = seen.before.before in
-    let o = found.before.before in
-    let s = o.args in
+    let s = c.args in
     unclipped s.extent s.self.registers _ _ c.place_of.ensures
-    (clip-is s.self _ o.command_of-c.ensures _ _ _ seen.rect_of.ensures c.contains.ensures false c.if-c-contains.false)
-    ∙ target-by s.extent s.self s.k s.cell _ _ o.position-visit.ensures found.in-At.is
+    (clip-is s.self _ c.command_of-c.ensures _ _ _ c.rect_of.ensures c.contains.ensures false c.if-c-contains.false)
+    ∙ target-by s.extent s.self s.k s.cell _ _ c.position-visit.ensures c.in-At.is

@@ -5,20 +5,12 @@ use Rattle.commands.proofs.Engine.visit.Goals as goal
 
 pub returns-then-c : goal.returns-then-c
 returns-then-c c =
-    let chosen = c.before.before.before.before in
-    let o = chosen.before in
-    let at = o.before.before.before.before in
-    let found = at.before in
-    let s = found.args in
-    visit-virtual s.extent s.self s.fill s.display.now s.virt.now _ _ _ _ _ _ found.before.command_of.ensures found.cell.ensures
-    at.target.ensures o.source_of-source.ensures o.advanced-after.ensures chosen.if-c.true c.ink.ensures
+    let s = c.args in
+    visit-virtual s.extent s.self s.fill s.display.now s.virt.now _ _ _ _ _ _ c.command_of-c.ensures c.cell-cell.ensures
+    c.target-place.ensures c.source_of-source.ensures c.advanced-after.ensures c.if-c.true c.ink.ensures
 
 pub returns-else-c : goal.returns-else-c
 returns-else-c c =
-    let chosen = c.before.before.before.before in
-    let o = chosen.before in
-    let at = o.before.before.before.before in
-    let found = at.before in
-    let s = found.args in
-    visit-display s.extent s.self s.fill s.display.now s.virt.now _ _ _ _ _ _ found.before.command_of.ensures found.cell.ensures
-    at.target.ensures o.source_of-source.ensures o.advanced-after.ensures chosen.if-c.false c.ink-else-c.ensures
+    let s = c.args in
+    visit-display s.extent s.self s.fill s.display.now s.virt.now _ _ _ _ _ _ c.command_of-c.ensures c.cell-cell.ensures
+    c.target-place.ensures c.source_of-source.ensures c.advanced-after.ensures c.if-c.false c.ink-else-c.ensures

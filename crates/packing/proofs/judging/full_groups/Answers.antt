@@ -1,6 +1,5 @@
 -- The loop's invariant: the search from group g on ends where the whole one does.
 use mathlib.Core.Path.{sym, ◌∙◌}
-use Prim.Native.Nat.{◌-◌}
 use native.Mathlib.Omega.{arith}
 use borrow.Author.Tests.{not-true, not-false}
 use Rattle.packing.proofs.Fulls.{full_start, full-over, full-stops, full-goes}

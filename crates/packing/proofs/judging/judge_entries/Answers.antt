@@ -1,7 +1,6 @@
 -- The loop's invariant: what is found from `place` on is what is found in the whole list. A place before the count lies in the
 -- list, so that its entry is legal exactly where `legal_at` says so (`legal-stops`, `legal-goes`).
 use mathlib.Core.Path.{refl, sym, ◌∙◌}
-use Prim.Native.Nat.{◌-◌}
 use native.Mathlib.Omega.{arith}
 use borrow.Author.Tests.{not-true, not-false}
 use Rattle.packing.proofs.Judges.{legal-start, legal-over, legal-stops, legal-goes}

@@ -2,7 +2,6 @@
 -- (`judged-goes`); it ends with the groups (`judged-over`) or at the first entry that does not pass (`judged-stops`).
 use mathlib.Core.Path.{refl, sym, ◌∙◌}
 use mathlib.Core.Bool.{true, false}
-use Prim.Native.Nat.{◌-◌}
 use native.Mathlib.Omega.{arith}
 use Rattle.packing.proofs.Judges.{judged-over, judged-stops, judged-goes}
 use Rattle.packing.proofs.judging.judge_groups.Goals as goal

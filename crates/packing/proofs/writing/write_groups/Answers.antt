@@ -1,7 +1,6 @@
 -- The loop's invariant: the first g groups stand in front of the output, which is else as it was; a turn adds group g
 -- (`groups-more`).
 use mathlib.Core.Path.{refl, ◌∙◌}
-use Prim.Native.Nat.{◌-◌}
 use native.Mathlib.Omega.{arith}
 use Rattle.packing.specs.Editions.{strung}
 use Rattle.packing.proofs.Puts.{groups-more, groups-all}

@@ -1,6 +1,5 @@
 -- The loop's invariant: what the reader still accepts of the bytes left is what the text says. The measure is the number of bytes
 -- left.
-use Prim.Native.Nat.{◌-◌}
 use native.Mathlib.Omega.{arith}
 use Rattle.pictures.proofs.Readers.{accepts-next, accepts-all}
 use Rattle.pictures.proofs.headers.says_size.Goals as goal

@@ -1,7 +1,6 @@
 -- The loop's invariant: the first k bytes are pasted into the memory, which has room for all; each turn is one more
 -- (`put-more`), and all of them are `put_into` (`put_all`). The measure is the number of bytes left.
 use mathlib.Core.Path.{◌≡◌, refl, ap, ◌∙◌}
-use Prim.Native.Nat.{◌-◌}
 use native.Mathlib.Omega.{arith}
 use lib.ListN.{length, length-set}
 use lib.Seq.{paste}

@@ -8,16 +8,12 @@ returns-then-number-gt1 c = export-unnamed _ _ _ _ c.if-number-gt1.true
 
 pub returns-in-Done : goal.returns-in-Done
 returns-in-Done c =
-    let x = c.before in
-    let w = x.before.before.before.before in
-    export-by _ _ _ _ (omega (arith, w.if-number-gt1.false)) _ _ _ w.write_picture.ensures x.in-Done.is
+    export-by _ _ _ _ (omega (arith, c.if-number-gt1.false)) _ _ _ c.write_picture.ensures c.in-Done.is
 
 pub returns-in-WrongSize : goal.returns-in-WrongSize
 returns-in-WrongSize c =
-    let w = c.before.before.before.before in
-    export-by _ _ _ _ (omega (arith, w.if-number-gt1.false)) _ _ _ w.write_picture.ensures c.in-WrongSize.is
+    export-by _ _ _ _ (omega (arith, c.if-number-gt1.false)) _ _ _ c.write_picture.ensures c.in-WrongSize.is
 
 pub returns-in-TooShort : goal.returns-in-TooShort
 returns-in-TooShort c =
-    let w = c.before.before.before.before in
-    export-by _ _ _ _ (omega (arith, w.if-number-gt1.false)) _ _ _ w.write_picture.ensures c.in-TooShort.is
+    export-by _ _ _ _ (omega (arith, c.if-number-gt1.false)) _ _ _ c.write_picture.ensures c.in-TooShort.is

@@ -20,18 +20,12 @@ returns-then-a-p c = import-busy _ _ _ _ _ _ (not-false _ c.if-not-number-buffer
 
 pub returns-in-Done : goal.returns-in-Done
 returns-in-Done c =
-    let r = c.before.before.before.before in
-    let free = r.before.before in
-    import-by _ _ _ _ _ _ (not-false _ free.if-not-number-buffer.false-raw) free.if-a-p.false _ _ _ r.read_picture.ensures c.in-Done.is
+    import-by _ _ _ _ _ _ (not-false _ c.if-not-number-buffer.false-raw) c.if-a-p.false _ _ _ c.read_picture.ensures c.in-Done.is
 
 pub returns-in-WrongSize : goal.returns-in-WrongSize
 returns-in-WrongSize c =
-    let r = c.before.before.before.before in
-    let free = r.before.before in
-    import-by _ _ _ _ _ _ (not-false _ free.if-not-number-buffer.false-raw) free.if-a-p.false _ _ _ r.read_picture.ensures c.in-WrongSize.is
+    import-by _ _ _ _ _ _ (not-false _ c.if-not-number-buffer.false-raw) c.if-a-p.false _ _ _ c.read_picture.ensures c.in-WrongSize.is
 
 pub returns-in-NotAPicture : goal.returns-in-NotAPicture
 returns-in-NotAPicture c =
-    let r = c.before.before.before.before in
-    let free = r.before.before in
-    import-by _ _ _ _ _ _ (not-false _ free.if-not-number-buffer.false-raw) free.if-a-p.false _ _ _ r.read_picture.ensures c.in-NotAPicture.is
+    import-by _ _ _ _ _ _ (not-false _ c.if-not-number-buffer.false-raw) c.if-a-p.false _ _ _ c.read_picture.ensures c.in-NotAPicture.is

@@ -6,5 +6,5 @@ pub returns : goal.returns
 returns c d v =
     let p = c.before.before.before in
     let e = p.before.before in
-    rw (e.in_limits.ensures, e.well_formed.ensures, p.well_formed-3.ensures, p.well_formed-4.ensures)
+    rw (e.in_limits.ensures, e.well_formed-2.ensures, p.well_formed-3.ensures, p.well_formed-4.ensures)
     (well-tiled e.args.self d v)

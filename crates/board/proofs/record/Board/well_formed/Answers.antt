@@ -7,7 +7,7 @@ returns c =
     let e = c.before.before.before.before in
     rw (
       e.in_limits.ensures,
-      e.well_formed.ensures,
+      e.well_formed-2.ensures,
       c.fill_ok.ensures,
       c.well_formed-3.ensures,
       c.well_formed-4.ensures,

@@ -6,8 +6,7 @@ use Rattle.pictures.proofs.headers.Stage.white.Goals as goal
 
 pub overflow_add-next : goal.overflow_add-next
 overflow_add-next c =
-    let number = c.self-in-Number-1.given.0 in
-    omega (arith, before-grey number.1.0 c.wanted-n.result number.0 c.if-v-n.true)
+    omega (arith, before-grey c.in-Number.v c.wanted-n.result c.in-Number.k c.if-v-n.true)
 
 pub returns-in-Start : goal.returns-in-Start
 returns-in-Start c = λ b e. rw c.in-Start.is (white-start _ _ b e)

@@ -1,0 +1,5 @@
+-- Each call is of a smaller number.
+use Rattle.pictures.proofs.writing.+put_decimal.Given as goal
+
+abbrev pub decreases-put_decimal : goal.decreases-put_decimal
+decreases-put_decimal l = l.n
