@@ -29,7 +29,7 @@ under_prefix = $(patsubst $(PREFIX)/%,$${prefix}/%,$(1))
 
 # prove_and_build: the archive; rt proves again only what has changed
 define prove_and_build
-cd crates/pramolyt_c && rt lib
+cd crates/pramolyt_c && rt lib --cpu x86-64
 install -D -m 644 crates/pramolyt_c/out/libpramolyt_c.a $(archive)
 endef
 
