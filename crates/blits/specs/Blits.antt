@@ -4,7 +4,7 @@ use Rattle.lemmas.specs.Turns.{in_turn}
 use Rattle.raster.specs.Selectors.{drawn}
 use Rattle.geometry.specs.Coordinates.{origin, point_of}
 use Rattle.geometry.specs.Clip.{place_in, in_buffer, in_window}
-use Rattle.geometry.specs.Blit.{width_of, blit_count, blit_point}
+use Rattle.geometry.specs.Blit.{blit_count, blit_point}
 use Rattle.geometry.specs.declared.Point.{Point}
 use Rattle.geometry.specs.declared.Window.{Window}
 use Rattle.rows.specs.Rows.{mixed}

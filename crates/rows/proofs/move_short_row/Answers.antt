@@ -1,7 +1,7 @@
 -- Where all pixels may be read before the first is written, the row is a copy; else byte by byte, by the direction.
 use borrow.Author.Rules.{rules}
 use mathlib.Core.Path.{◌∙◌, sym}
-use Prim.Native.Nat.{◌+◌, ◌≤◌}
+use Prim.Native.Nat.{◌+◌}
 use native.Mathlib.Omega.{arith}
 use lib.ListN.{length}
 use Rattle.rows.specs.Rows.{mixed}
@@ -24,57 +24,53 @@ returns-then-not-fits c =
 pub reads_first-requires : goal.reads_first-requires
 reads_first-requires c = search rules
 
-inside : (c : goal.Else-not-fits) → let a = c.args in (a.at + a.n ≤ length a.buffer.now) × (a.from + a.n ≤ length a.buffer.now)
-inside c = fit-both _ _ _ _ _ _ c.fits.ensures c.fits-2.ensures c.if-not-fits.false-raw
-
 pub mix_short_within-requires : goal.mix_short_within-requires
 mix_short_within-requires c =
-    let o = c.before.before.before in
-    let h = not-outside 8 _ 16 o.if-n.false in
-    let g = inside o in
+    let h = not-outside 8 _ 16 c.if-n.false in
+    let g = fit-both _ _ _ _ _ _ c.fits.ensures c.fits-2.ensures c.if-not-fits.false-raw in
     (h.0, h.1, g.0, g.1)
 
 pub returns-then-reads_first : goal.returns-then-reads_first
 returns-then-reads_first c =
-    let y = c.before.before.before.before in
-    let o = y.before.before in
-    let a = o.args in
-    let h = inside o in
+    let a = c.args in
+    let h = fit-both _ _ _ _ _ _ c.fits.ensures c.fits-2.ensures c.if-not-fits.false-raw in
     λ _ _.
     c.mix_short_within.ensures
-    ∙ sym (y.reads_first.ensures y.if-reads_first.true (mixed a.mix) a.buffer.now)
+    ∙ sym (c.reads_first.ensures c.if-reads_first.true (mixed a.mix) a.buffer.now)
     ∙ shifted_row_lem a.back a.mix a.n a.buffer.now a.at a.from h.0 h.1
 
 pub overflow_add-at : goal.overflow_add-at
-overflow_add-at c = omega (arith, (inside c.before.before.before.before).0)
+overflow_add-at c =
+    let h = fit-both _ _ _ _ _ _ c.fits.ensures c.fits-2.ensures c.if-not-fits.false-raw in
+    omega (arith, h.0)
 
 pub overflow_add-from : goal.overflow_add-from
-overflow_add-from c = omega (arith, (inside c.before.before.before.before).1)
+overflow_add-from c =
+    let h = fit-both _ _ _ _ _ _ c.fits.ensures c.fits-2.ensures c.if-not-fits.false-raw in
+    omega (arith, h.1)
 
 pub mix_within_back-requires : goal.mix_within_back-requires
-mix_within_back-requires c = let h = inside c.before.before.before.before in (omega arith, omega arith, h.0, h.1)
+mix_within_back-requires c =
+    let h = fit-both _ _ _ _ _ _ c.fits.ensures c.fits-2.ensures c.if-not-fits.false-raw in
+    (omega arith, omega arith, h.0, h.1)
 
 pub returns-then-back : goal.returns-then-back
 returns-then-back c =
-    let y = c.before.before.before.before in
-    let o = y.before.before.before in
-    let a = o.args in
-    let h = inside o in
+    let a = c.args in
+    let h = fit-both _ _ _ _ _ _ c.fits.ensures c.fits-2.ensures c.if-not-fits.false-raw in
     λ _ _.
     c.mix_within_back.ensures
-    ∙ shifted-left a.back (mixed a.mix) a.n a.buffer.now a.at a.from y.if-back.true
+    ∙ shifted-left a.back (mixed a.mix) a.n a.buffer.now a.at a.from c.if-back.true
     ∙ shifted_row_lem a.back a.mix a.n a.buffer.now a.at a.from h.0 h.1
 
 pub mix_within-requires : goal.mix_within-requires
-mix_within-requires c = inside c.before.before.before.before
+mix_within-requires c = fit-both _ _ _ _ _ _ c.fits.ensures c.fits-2.ensures c.if-not-fits.false-raw
 
 pub returns : goal.returns
 returns c =
-    let y = c.before.before.before.before in
-    let o = y.before.before.before in
-    let a = o.args in
-    let h = inside o in
+    let a = c.args in
+    let h = fit-both _ _ _ _ _ _ c.fits.ensures c.fits-2.ensures c.if-not-fits.false-raw in
     λ _ _.
     c.mix_within.ensures
-    ∙ shifted-right a.back (mixed a.mix) a.n a.buffer.now a.at a.from y.if-back.false
+    ∙ shifted-right a.back (mixed a.mix) a.n a.buffer.now a.at a.from c.if-back.false
     ∙ shifted_row_lem a.back a.mix a.n a.buffer.now a.at a.from h.0 h.1

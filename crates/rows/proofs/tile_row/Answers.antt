@@ -1,7 +1,7 @@
 -- A row that does not fit is not drawn (`tiled-out`); one that fits is (`tiled-row`), from the column on (`from-column`).
 use native.Mathlib.Omega.{arith}
-use mathlib.Core.Path.{◌≡◌, ◌∙◌}
-use Prim.Native.Nat.{ℕ, ◌+◌, ◌≤◌}
+use mathlib.Core.Path.{◌∙◌}
+use Prim.Native.Nat.{ℕ, ◌+◌}
 use lib.ListN.{length}
 use Rattle.rows.specs.Rows.{mixed, unkeyed, covered}
 use Rattle.rows.proofs.Fitting.{tiled-row, tiled-out, fit-long, unfit-long}
@@ -16,39 +16,33 @@ returns-then-not-fits-wide c pixel t =
     (unfit-long _ (a.at + a.n) (length a.buffer.now) (length a.wide.now) 256 c.fits.ensures c.if-not-fits-wide.true-raw
     t.long)
 
--- what the test said
-fitting : (c : goal.Else-not-fits-wide) → let a = c.args in
-    (a.at + a.n ≤ length a.buffer.now) × (length a.wide.now ≡ 256)
-fitting c = fit-long _ _ _ _ _ c.fits.ensures c.if-not-fits-wide.false-raw
-
 pub overflow_mul-row : goal.overflow_mul-row
 overflow_mul-row c = search rules
 
 pub cover_row-requires : goal.cover_row-requires
 cover_row-requires c =
-    let h = fitting c.before.before.before in
+    let h = fit-long _ _ _ _ _ c.fits.ensures c.if-not-fits-wide.false-raw in
     (h.0, omega (arith, h.1), omega (arith, h.1))
 
 pub returns-then-covers : goal.returns-then-covers
 returns-then-covers c pixel t =
-    let q = c.before.before.before.before in
-    let o = q.before.before in
-    let a = o.args in
+    let a = c.args in
+    let h = fit-long _ _ _ _ _ c.fits.ensures c.if-not-fits-wide.false-raw in
     let row : ℕ → ℕ = λ k. pixel (a.x + k) in
     c.cover_row.ensures row (from-column pixel a.wide.now a.y t a.x a.n)
-    ∙ tiled-by (covered a.selectors) (mixed (unkeyed a.selectors)) (q.covers.ensures q.if-covers.true)
+    ∙ tiled-by (covered a.selectors) (mixed (unkeyed a.selectors)) (c.covers.ensures c.if-covers.true)
     a.n a.buffer.now a.at row
-    ∙ tiled-row a.selectors a.n a.buffer.now a.at row (fitting o).0
+    ∙ tiled-row a.selectors a.n a.buffer.now a.at row h.0
 
 pub mix_row-requires : goal.mix_row-requires
 mix_row-requires c =
-    let h = fitting c.before.before.before in
+    let h = fit-long _ _ _ _ _ c.fits.ensures c.if-not-fits-wide.false-raw in
     (h.0, omega (arith, h.1), omega (arith, h.1))
 
 pub returns : goal.returns
 returns c pixel t =
-    let o = c.before.before.before.before.before.before in
-    let a = o.args in
+    let a = c.args in
+    let h = fit-long _ _ _ _ _ c.fits.ensures c.if-not-fits-wide.false-raw in
     let row : ℕ → ℕ = λ k. pixel (a.x + k) in
     c.mix_row.ensures row (from-column pixel a.wide.now a.y t a.x a.n)
-    ∙ tiled-row a.selectors a.n a.buffer.now a.at row (fitting o).0
+    ∙ tiled-row a.selectors a.n a.buffer.now a.at row h.0

@@ -1,7 +1,6 @@
 -- The loop keeps `Swept`: k bytes are put. Each turn puts one more, by `sweep-more`.
 use native.Mathlib.Omega.{arith}
 use mathlib.Core.Path.{refl}
-use Prim.Native.Nat.{◌-◌}
 use Rattle.lemmas.proofs.Sweeps.{sweep-start, sweep-more, swept-start, swept-set, swept-end}
 use Rattle.tiles.proofs.put_row.Goals as goal
 

@@ -1,12 +1,12 @@
 -- The loop keeps `Filled`: j rows are there twice. Each turn is one row more (`row-twice`). A memory of another size stays as it is.
 use native.Mathlib.Omega.{arith}
-use Prim.Native.Nat.{◌-◌, ◌*◌}
+use Prim.Native.Nat.{◌*◌}
 use Rattle.lemmas.proofs.Filling.{fill_start, fill_end}
 use Rattle.tiles.proofs.Doubling.{row-twice, twice-not, twice-all}
 use Rattle.tiles.proofs.put_twice.Goals as goal
 
 pub returns-then-bytes-ne256 : goal.returns-then-bytes-ne256
-returns-then-bytes-ne256 c = let s = c.args in twice-not s.t1 s.bytes.now c.if-bytes-ne256.true
+returns-then-bytes-ne256 c = let s = c.args in twice-not s.tile s.bytes.now c.if-bytes-ne256.true
 
 pub loop-j-init : goal.loop-j-init
 loop-j-init c = fill_start _ _ _ _ (omega arith)
@@ -40,11 +40,9 @@ loop-j-smaller c = omega arith
 
 pub loop-j-preserved : goal.loop-j-preserved
 loop-j-preserved c =
-    let second = c.before.before in
-    let first = second.before.before.before.before in
     let o = c.loop-j in
     let t = c.args.tile in
-    row-twice t o.j o.bytes _ _ (omega arith) o.invariant first.put_row.ensures second.put_row-in-loop-j.ensures
+    row-twice t o.j o.bytes _ _ (omega arith) o.invariant c.put_row.ensures c.put_row-in-loop-j.ensures
 
 pub shape_of-bytes : goal.shape_of-bytes
 shape_of-bytes c = omega arith
@@ -53,4 +51,4 @@ pub returns : goal.returns
 returns c =
     let o = c.loop-j in
     let s = c.args in
-    twice-all s.t1 s.bytes.now o.bytes (omega arith) (fill_end _ _ _ o.bytes (32 * o.j) o.invariant (omega arith))
+    twice-all s.tile s.bytes.now o.bytes (omega arith) (fill_end _ _ _ o.bytes (32 * o.j) o.invariant (omega arith))

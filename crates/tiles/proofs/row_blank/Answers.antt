@@ -1,7 +1,6 @@
 -- The loop keeps that so far the test is `all_below i`; each turn is one pixel more (`turn_more`).
 use native.Mathlib.Omega.{arith}
 use mathlib.Core.Path.{refl}
-use Prim.Native.Nat.{◌-◌}
 use Rattle.lemmas.proofs.Turns.{turn-none, turn_more, turn_end}
 use Rattle.tiles.proofs.row_blank.Goals as goal
 

@@ -2,7 +2,6 @@
 use native.Mathlib.Omega.{arith}
 use mathlib.Core.Bool.{◌&&◌}
 use mathlib.Core.Path.{ap}
-use Prim.Native.Nat.{◌-◌}
 use Rattle.lemmas.proofs.Turns.{turn-none, turn_more, turn_end}
 use Rattle.tiles.proofs.tile_blank.Goals as goal
 

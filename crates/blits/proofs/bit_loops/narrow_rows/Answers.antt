@@ -2,7 +2,6 @@
 -- A place in the source is a bit: that of its byte, eight times, and the same bit of a byte for all rows.
 use mathlib.Core.Path.{refl}
 use mathlib.Core.Bool.{false}
-use Prim.Native.Nat.{◌-◌}
 use native.Mathlib.Omega.{arith}
 use Rattle.blits.proofs.Painted.{stippled-from}
 use Rattle.blits.proofs.Rowed.{rowed-start, rowed-turn, rowed-end, row_inside, source-inside, row-far, source-far, bits-next}

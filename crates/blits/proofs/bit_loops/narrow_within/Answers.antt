@@ -3,7 +3,6 @@
 use mathlib.Core.Path.{refl}
 use mathlib.Core.Bool.{false}
 use mathlib.Core.List.{[]}
-use Prim.Native.Nat.{◌-◌}
 use native.Mathlib.Omega.{arith}
 use Rattle.blits.proofs.Painted.{stippled-within}
 use Rattle.blits.proofs.Rowed.{rowed-start, rowed-turn, rowed-end, row_inside, source-inside, row-far, source-far, bits-next, row_apart}

@@ -1,7 +1,6 @@
 -- The loop keeps `Expanding`: k pixels are drawn, eight a turn by `expanding-turn`; the last ones follow by `expanding-rest`.
 use native.Mathlib.Omega.{arith}
 use mathlib.Core.Bool.{◌&&◌, true}
-use Prim.Native.Nat.{◌-◌}
 use borrow.Author.Tests.{eqb-true}
 use lib.Dec.{eqb}
 use mathlib.Core.Path.{◌≡◌}

@@ -1,7 +1,7 @@
 -- The loop keeps `Swept`: k bytes are stored; `rest` is the word without them. Each turn is one byte more, by `sweep-more`.
 use native.Mathlib.Omega.{arith}
 use mathlib.Core.Path.{ap, ◌∙◌}
-use Prim.Native.Nat.{◌-◌, ◌/◌, ◌%◌}
+use Prim.Native.Nat.{◌/◌, ◌%◌}
 use Rattle.lemmas.proofs.Sweeps.{sweep-start, sweep-more, swept-start, swept-set, swept-end}
 use Rattle.blits.proofs.Words.{first_byte, next-byte}
 use Rattle.blits.proofs.eights.put_word.Goals as goal

@@ -8,11 +8,10 @@ use Rattle.blits.proofs.eights.word_at.Goals as goal
 
 pub returns : goal.returns
 returns c =
-    let known = c.before.before.before.before.before.before.before.before.before in
-    let s = known.args in
+    let s = c.args in
     let l = s.buffer.now in
     let at = s.at in
-    let small : (i : ℕ) → get_or l i 0 < 256 = λ i. omega (arith, known.shared_slice_known-1.given i) in
+    let small : (i : ℕ) → get_or l i 0 < 256 = λ i. omega (arith, c.type_inv.buffer i) in
     λ k h.
     rw c.word_of.ensures
     (bytes_of _ _ _ _ _ _ _ _ (small at) (small (at + 1)) (small (at + 2)) (small (at + 3)) (small (at + 4)) (small (at + 5)) (small (at + 6))

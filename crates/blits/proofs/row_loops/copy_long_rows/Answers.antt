@@ -1,7 +1,6 @@
 -- The loop keeps `Rowed`: k rows are drawn and the rest are as before. Each turn is one row more, by `copied-turn`.
 use mathlib.Core.Path.{refl}
 use mathlib.Core.Bool.{false}
-use Prim.Native.Nat.{◌-◌}
 use native.Mathlib.Omega.{arith}
 use Rattle.blits.proofs.Rowed.{rowed-start, rowed-end, row-far, source-far, copied-turn}
 use Rattle.blits.proofs.row_loops.copy_long_rows.Goals as goal

@@ -3,7 +3,6 @@
 use mathlib.Core.Path.{refl}
 use mathlib.Core.Bool.{false, false≢true}
 use mathlib.Core.List.{[]}
-use Prim.Native.Nat.{◌-◌}
 use native.Mathlib.Omega.{arith}
 use Rattle.blits.proofs.Painted.{solid-row}
 use Rattle.blits.proofs.Rowed.{rowed-start, rowed-turn, rowed-end, row_inside, row-far}

@@ -1,7 +1,6 @@
 -- The loop keeps `Rowed`: k rows are drawn and the rest are as before. Each turn is one row more, by `rowed-turn`.
 use mathlib.Core.Path.{refl}
 use mathlib.Core.List.{[]}
-use Prim.Native.Nat.{◌-◌}
 use native.Mathlib.Omega.{arith}
 use Rattle.blits.proofs.Painted.{moved-left}
 use Rattle.blits.proofs.Rowed.{rowed-start, rowed-turn, rowed-end, row_inside, source-inside, row-far, source-far}

@@ -1,6 +1,5 @@
 -- The loop keeps `Rowed`, with the covered buffer as its source, and the next row's line. Each turn is one row more, by `tile-turn`.
 use mathlib.Core.Bool.{false}
-use Prim.Native.Nat.{◌-◌}
 use native.Mathlib.Omega.{arith}
 use Rattle.blits.proofs.Planes.{line-far, first-line, next-line, tile-start, tile-turn}
 use Rattle.blits.proofs.Rowed.{rowed-end, row-far}

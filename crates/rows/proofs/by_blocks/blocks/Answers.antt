@@ -1,7 +1,7 @@
 -- The loop keeps `Swept`: the pixels of so many blocks are drawn. Each turn is one block more, by `moved-block`.
 use native.Mathlib.Omega.{arith}
 use mathlib.Core.Path.{refl}
-use Prim.Native.Nat.{◌+◌, ◌-◌}
+use Prim.Native.Nat.{◌+◌}
 use Rattle.rows.specs.Rows.{mixed}
 use Rattle.lemmas.proofs.Sweeps.{sweep-start, swept-start, swept-turn}
 use Rattle.rows.proofs.Within.{moved-block}

@@ -1,6 +1,5 @@
 -- The loop keeps `Swept`: k visits are done. Each turn is one visit more, by `sweep-more`.
 use native.Mathlib.Omega.{arith}
-use Prim.Native.Nat.{◌-◌}
 use Rattle.lemmas.proofs.Sweeps.{sweep-start, sweep-more, swept-start, swept-set, swept-end}
 use Rattle.rows.proofs.by_bytes.mix_within.Goals as goal
 

@@ -1,7 +1,6 @@
 -- The loop keeps `Swept`: k visits are done. Each turn is one visit more, by `sweep-more`.
 use native.Mathlib.Omega.{arith}
 use mathlib.Core.Path.{refl}
-use Prim.Native.Nat.{◌-◌}
 use Rattle.lemmas.proofs.Sweeps.{sweep-start, sweep-more, swept-start, swept-set, swept-end}
 use Rattle.rows.proofs.by_bytes.move_bytes_back.Goals as goal
 

@@ -2,7 +2,6 @@
 use native.Mathlib.Omega.{arith}
 use borrow.Author.Rules.{rules}
 use mathlib.Core.Path.{refl, ◌∙◌}
-use Prim.Native.Nat.{◌-◌}
 use Rattle.rows.specs.Rows.{mixed}
 use Rattle.lemmas.proofs.Sweeps.{sweep-start, swept-start, swept-turn, swept-end}
 use Rattle.rows.proofs.Tiles.{block_more}
@@ -34,15 +33,12 @@ loop-k-smaller c = omega arith
 
 pub loop-k-preserved : goal.loop-k-preserved
 loop-k-preserved c =
-    let second = c.before.before in
-    let first = second.before.before.before.before.before in
-    let o = first.before.before.before.before in
-    let a = o.args in
-    let x = o.loop-k.invariant in (
+    let a = c.args in
+    let x = c.loop-k.invariant in (
       omega arith,
-      swept-turn x.1 32 _ (omega arith) (second.mix_bytes-in-loop-k.auto.buffer ∙ first.mix_bytes.auto.buffer)
-          (block_more (mixed a.mix) a.buffer.now a.at a.t4 o.loop-k.k o.loop-k.buffer _ _ x.0 x.1.done
-          first.mix_bytes.ensures second.mix_bytes-in-loop-k.ensures),
+      swept-turn x.1 32 _ (omega arith) (c.mix_bytes-in-loop-k.auto.buffer ∙ c.mix_bytes.auto.buffer)
+          (block_more (mixed a.mix) a.buffer.now a.at a.pixels c.loop-k.k c.loop-k.buffer _ _ x.0 x.1.done
+          c.mix_bytes.ensures c.mix_bytes-in-loop-k.ensures),
     )
 
 pub shape_of-buffer : goal.shape_of-buffer

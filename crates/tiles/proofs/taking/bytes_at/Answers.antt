@@ -2,7 +2,6 @@
 -- lies past the buffer's end (`padded`).
 use native.Mathlib.Omega.{arith}
 use mathlib.Core.Path.{refl}
-use Prim.Native.Nat.{◌-◌}
 use lib.ListN.{get_or-eq_default}
 use Rattle.lemmas.proofs.Filling.{fill_start, fill-set}
 use Rattle.tiles.proofs.Pixels.{padded, pad-less, zeros}

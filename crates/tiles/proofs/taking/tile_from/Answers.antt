@@ -1,7 +1,6 @@
 -- The loop keeps `Filled`: j rows are taken. Each turn takes one more (`fill-set`), whose place fits 64 bits (`product_small`).
 use native.Mathlib.Omega.{arith}
 use mathlib.Core.Path.{refl}
-use Prim.Native.Nat.{◌-◌}
 use Rattle.lemmas.proofs.Filling.{fill_start, fill-set, fill_end}
 use Rattle.tiles.proofs.Corners.{product_small}
 use Rattle.tiles.proofs.taking.tile_from.Goals as goal

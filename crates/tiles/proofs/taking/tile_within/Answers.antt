@@ -1,7 +1,6 @@
 -- The loop keeps `Filled`: j rows are taken. Each turn takes one more (`fill-set`), which the buffer has (`row_inside`).
 use native.Mathlib.Omega.{arith}
 use mathlib.Core.Path.{refl}
-use Prim.Native.Nat.{◌-◌}
 use Rattle.lemmas.proofs.Filling.{fill_start, fill-set, fill_end}
 use Rattle.tiles.proofs.Corners.{row_inside}
 use Rattle.tiles.proofs.taking.tile_within.Goals as goal
