@@ -16,7 +16,7 @@ use Rattle.lemmas.specs.Turns.{in_turn}
 use Rattle.lemmas.proofs.Booleans.{by_cases, and_left, and_right}
 use Rattle.lemmas.proofs.Sweeps.{set_all}
 use Rattle.lemmas.proofs.Turns.{turn-none, turn_more, turn_agree, turn-join}
-use Rattle.raster.specs.Selectors.{drawn, selected}
+use Rattle.raster.specs.Selectors.{drawn}
 use Rattle.raster.specs.declared.Pen.{Pen}
 use Rattle.raster.proofs.Bits.{bit-ind, bit-xor, same_bits}
 use Rattle.entries.specs.declared.fields.PatternControl.{PatternControl}
@@ -25,7 +25,7 @@ use Rattle.registers.specs.declared.dashes.Pattern.{Pattern}
 use Rattle.registers.proofs.Rounds.{moves-in-one-go}
 use Rattle.rows.specs.Rows.{mixed}
 use Rattle.rows.specs.declared.Mix.{Mix}
-use Rattle.strokes.specs.Strokes.{plot, Dashed, dashed}
+use Rattle.strokes.specs.Strokes.{plot, dashed}
 use Rattle.strokes.specs.Bresenham.{bresenham_after, plot_dash_at, Places}
 use Rattle.strokes.specs.Phases.{pattern_of, Holds, dash_pen, back_pen}
 use Rattle.strokes.specs.Masks.{goes_round, Round, mask_at, Masks, Rounds, Mixes, mix_at}

@@ -1,6 +1,6 @@
 -- The error term: at each pixel the coordinate is the nearest, and a step leads to the next pixel's.
 -- Assumes nothing.
-use mathlib.Core.Path.{◌≡◌, refl, ap, sym, ◌∙◌}
+use mathlib.Core.Path.{◌≡◌, ap, sym, ◌∙◌}
 use mathlib.Core.Logic.{⊎_elim, inl, inr}
 use Prim.Native.Nat.{ℕ, zero, suc, ◌+◌, ◌-◌, ◌*◌, ◌/◌, ◌%◌, ◌≤◌, ◌<◌, min, max}
 use native.Mathlib.Nat.{add-mul, mul-add, mul-suc, mul_assoc, mul_left_comm, one-mul, mul-le-mul, mul-le-mul_left, mul-le-mul_right}

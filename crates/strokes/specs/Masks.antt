@@ -1,5 +1,5 @@
 -- A pattern as a mask, a byte a pixel, and rows mixed by it.
-use Rattle.std.specs.Prelude.{◌≡◌, Bool, true, cond, ◌&&◌, List, ℕ, ◌+◌, ◌-◌, ◌*◌, ◌≤◌, ◌<◌, leb, length, get_or, set}
+use Rattle.std.specs.Prelude.{◌≡◌, Bool, true, cond, ◌&&◌, List, ℕ, ◌+◌, ◌-◌, ◌*◌, ◌≤◌, ◌<◌, leb, get_or, set}
 use Rattle.entries.specs.declared.fields.PatternControl.{PatternControl}
 use Rattle.lemmas.specs.Turns.{in_turn}
 use Rattle.raster.specs.Selectors.{drawn}

@@ -1,7 +1,6 @@
 -- `strokes::masks::mix_rounds` meets its contract. The loop's invariant, `Mixing`: j pixels are mixed, and where there are more
 -- the mask begins anew; `mixing-turn` gives a turn. The measure is what is left of n.
 -- Assumes nothing.
-use Prim.Native.Nat.{◌-◌}
 use native.Mathlib.Omega.{arith}
 use Rattle.lemmas.proofs.Turns.{turn_end}
 use Rattle.strokes.proofs.Masking.{mixing-start, mixing-turn, fewer-places}

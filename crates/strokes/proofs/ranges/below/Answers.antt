@@ -5,13 +5,11 @@ use Rattle.strokes.proofs.Crossings.{below_none, below_all, below-count}
 use Rattle.strokes.proofs.ranges.below.Goals as goal
 
 pub returns-then-c-a : goal.returns-then-c-a
-returns-then-c-a c = below_none _ _ _ _ c.before.pre.0.some c.before.pre.1 c.if-c-a.taken
+returns-then-c-a c = below_none _ _ _ _ c.requires.0.some c.requires.1 c.if-c-a.true
 
 pub returns-then-b-c : goal.returns-then-b-c
-returns-then-b-c c = let s = c.before.before in below_all _ _ _ _ s.pre.0.some s.pre.1 c.if-b-c.taken
+returns-then-b-c c = below_all _ _ _ _ c.requires.0.some c.requires.1 c.if-b-c.true
 
 pub returns : goal.returns
 returns c =
-    let e = c.before.before in
-    let s = e.before in
-    below-count _ _ _ _ s.pre.0.some s.pre.1 _ e.if-c-a.left c.count.ensures
+    below-count _ _ _ _ c.requires.0.some c.requires.1 _ c.if-c-a.false c.count.ensures
