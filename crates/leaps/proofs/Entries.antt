@@ -21,7 +21,6 @@ use Rattle.entries.proofs.Registers.{entry-held, high_held}
 use Rattle.lists.specs.Spans.{end_of}
 use Rattle.lists.specs.Cursors.{judged, next_of, fetched_of, ended_of}
 use Rattle.lists.specs.declared.cursors.Cursor.{Cursor}
-use Rattle.lists.specs.declared.cursors.Next.{Next}
 use Rattle.lists.specs.declared.cursors.Next.TheVariants.{Ended, Take, Broken}
 use Rattle.lists.proofs.Fetches.{next-ended, next-read}
 use Rattle.commands.specs.Visits.{command_in, count_of}

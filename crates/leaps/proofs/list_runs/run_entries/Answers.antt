@@ -1,12 +1,12 @@
 -- The loop's invariant is `Resting`: no command is under way, and the rest of the run is that from here. A turn is one entry, by its
 -- register (`turn-put`), and where it triggers one the command's pixels (`turn-ends`); the measure is what is left of the budget.
-use mathlib.Core.Bool.{false, not, ◌&&◌}
-use mathlib.Core.List.{List}
+use mathlib.Core.Bool.{false, not}
 use mathlib.Core.Path.{◌≡◌, refl, ap, ap₂, ◌∙◌}
-use Prim.Native.Nat.{ℕ, ◌+◌, ◌-◌, ◌*◌, ◌/◌, ◌≤◌, ◌<◌, min}
+use Prim.Native.Nat.{ℕ, ◌+◌, ◌-◌, ◌*◌, ◌≤◌, min}
 use native.Mathlib.Omega.{arith}
+use borrow.Author.Rules.{rules}
 use borrow.Author.Tests.{not-true, not-false}
-use lib.ListN.{length, get_or}
+use lib.ListN.{get_or}
 use Rattle.lists.specs.Spans.{end_of}
 use Rattle.lists.specs.Cursors.{fetched_of}
 use Rattle.entries.specs.Fields.{is_trigger}
@@ -200,8 +200,8 @@ returns-in_default c =
     let s = c.args in
     let t = in-turn s.list.now s.cursor _ _ _ _ (end_is _ _ c.min-end.ensures c.end.ensures) c.loop-k.invariant.going.span_same c.loop-k-test.true in
     turn-none _ _ _ _ _ _ _ _ _ _ t.0 c.loop-k.invariant t.1 t.2
-    (next-none _ _ t.1 t.2 c.in_default.not-0 c.in_default.not-8 c.in_default.not-16 c.in_default.not-24 c.in_default.not-32 c.in_default.not-40
-    c.in_default.not-48 c.in_default.not-56 c.in_default.not-64 c.in_default.not-72 c.in_default.not-80 c.in_default.not-88 c.in_default.not-96)
+    (next-none _ _ t.1 t.2 (search rules) (search rules) (search rules) (search rules) (search rules) (search rules) (search rules) (search rules)
+    (search rules) (search rules) (search rules) (search rules) (search rules))
 
 -- where the arms meet: after the entry, and the pixels of a command that it triggers
 abbrev Turned : goal.After-row_known-1 → Type 0
