@@ -1,6 +1,6 @@
 -- A command's pixels are few enough for 32 bits, and registers and last point alone say how many there are.
 -- Assumes nothing.
-use mathlib.Core.Path.{◌≡◌, refl, ap₂, sym, ◌∙◌}
+use mathlib.Core.Path.{◌≡◌, refl, ap₂}
 use Prim.Native.Nat.{ℕ, ◌<◌}
 use native.Mathlib.Omega.{arith}
 use Rattle.lemmas.proofs.Booleans.{by_cases}

@@ -2,20 +2,20 @@
 -- same.
 -- Assumes nothing.
 use mathlib.Core.Path.{◌≡◌, refl, ap, sym, subst, ◌∙◌}
-use mathlib.Core.Bool.{Bool, true, false, cond, ◌&&◌, false≢true}
+use mathlib.Core.Bool.{Bool, true, false, cond, false≢true}
 use mathlib.Core.List.{List, [], ◌∷◌, ◌++◌}
-use Prim.Native.Nat.{ℕ, zero, suc, ◌+◌, ◌-◌, ◌<◌}
+use Prim.Native.Nat.{ℕ, zero, suc, ◌+◌, ◌<◌}
 use native.Mathlib.Omega.{arith}
 use borrow.Author.Tests.{ltb-true}
-use lib.Dec.{eqb, ltb}
+use lib.Dec.{ltb}
 use Rattle.lemmas.proofs.Booleans.{by_cases, and_right}
 use Rattle.geometry.specs.declared.Extent.{Extent}
 use Rattle.entries.specs.Fields.{triggers}
 use Rattle.entries.specs.declared.decoding.Entry.{Entry}
 use Rattle.commands.specs.Visits.{command_in, Rule, shows, every, count_by}
-use Rattle.commands.specs.Steps.{Scene, pattern_after, advanced_by, visit_by, with_word, triggered_by, entered_by, taken_by}
-use Rattle.commands.specs.Wholes.{pixels_left, finished_by, done_by, steps_by}
-use Rattle.commands.specs.Lists.{Listed, listed, fetched_by, step_by, gone_by, Ended, ListsEnd, ListsUnchanged}
+use Rattle.commands.specs.Steps.{Scene, pattern_after, advanced_by, visit_by, with_word, entered_by, taken_by}
+use Rattle.commands.specs.Wholes.{finished_by, done_by, steps_by}
+use Rattle.commands.specs.Lists.{listed, fetched_by, step_by, gone_by, ListsEnd, ListsUnchanged}
 use Rattle.commands.specs.declared.Engine.{Engine}
 use Rattle.commands.proofs.Bounds.{count_same}
 use Rattle.commands.proofs.Triggers.{triggered-count}

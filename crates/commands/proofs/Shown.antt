@@ -1,20 +1,16 @@
 -- The cells that a blit visits are the visible ones of its rectangle.
 -- Assumes nothing.
 use mathlib.Core.Path.{◌≡◌, refl, ap, sym, ◌∙◌}
-use mathlib.Core.Bool.{Bool, true, false, cond}
-use mathlib.Core.List.{List, [], ◌∷◌}
-use Prim.Native.Nat.{ℕ, ◌≤◌, ◌<◌}
+use Prim.Native.Nat.{ℕ, ◌≤◌}
 use native.Mathlib.Omega.{arith}
 use borrow.Author.Tests.{ltb-true, ltb-false}
 use lib.Dec.{ltb}
 use lib.ListN.{length, get_or}
-use Rattle.lemmas.specs.Numbers.{below, filtered}
 use Rattle.lemmas.proofs.Booleans.{by_cases}
 use Rattle.lemmas.proofs.Numbers.{map-below-length, map-below-at, map-below-past, filtered-same}
 use Rattle.geometry.specs.Coordinates.{point_of}
-use Rattle.geometry.specs.Clip.{in_window}
 use Rattle.geometry.specs.Blit.{blit_count, blit_cells, blit_cell, cell_point}
-use Rattle.geometry.specs.Visible.{cell_shows, visible_count, visible_index, visible_cell, visible_cells}
+use Rattle.geometry.specs.Visible.{cell_shows, visible_count, visible_cell, visible_cells}
 use Rattle.geometry.specs.declared.Cell.{Cell}
 use Rattle.geometry.specs.declared.Cell.TheVariants.{At as CellAt, Past as CellPast}
 use Rattle.geometry.specs.declared.Extent.{Extent}

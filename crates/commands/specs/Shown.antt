@@ -1,5 +1,5 @@
 -- What holds of a blit's visits (02, R-6); proved in proofs/Shown.antt, Bounds.antt and Unchanged.antt.
-use Rattle.std.specs.Prelude.{◌≡◌, true, false, List, ℕ, ◌*◌, ◌≤◌}
+use Rattle.std.specs.Prelude.{◌≡◌, true, false, List, ◌*◌, ◌≤◌}
 use Rattle.geometry.specs.Coordinates.{point_of}
 use Rattle.geometry.specs.Visible.{visible_cells}
 use Rattle.geometry.specs.declared.Extent.{Extent}

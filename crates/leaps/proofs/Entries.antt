@@ -14,13 +14,13 @@ use Rattle.entries.specs.Layout.{entry_of, word_at}
 use Rattle.entries.specs.Legality.{data_legal, entry_legal}
 use Rattle.entries.specs.Fields.{is_trigger}
 use Rattle.entries.specs.declared.decoding.Entry.{Entry}
+use Rattle.entries.specs.declared.fields.Command.{Command}
 use Rattle.entries.specs.declared.decoding.Decoded.TheVariants.{Whole, Nothing}
 use Rattle.entries.proofs.Decodes.{decoded-whole, decoded-none, word_in}
 use Rattle.entries.proofs.Registers.{entry-held, high_held}
 use Rattle.lists.specs.Spans.{end_of}
 use Rattle.lists.specs.Cursors.{judged, next_of, fetched_of, ended_of}
 use Rattle.lists.specs.declared.cursors.Cursor.{Cursor}
-use Rattle.lists.specs.declared.cursors.Next.{Next}
 use Rattle.lists.specs.declared.cursors.Next.TheVariants.{Ended, Take, Broken}
 use Rattle.lists.proofs.Fetches.{next-ended, next-read}
 use Rattle.commands.specs.Visits.{command_in, count_of}
@@ -28,6 +28,7 @@ use Rattle.commands.specs.Hatching.{hatches, tiles}
 use Rattle.commands.specs.Entering.{writes, put_of, begin_of}
 use Rattle.commands.specs.Steps.{Scene, entered_of}
 use Rattle.commands.specs.declared.Engine.{Engine}
+use Rattle.commands.proofs.Tests.{flag_is}
 use Rattle.commands.proofs.Triggers.{put-entered, begin-rests, begin-busy, begin-ends}
 use Rattle.leaps.specs.declared.list_runs.ListRun.{ListRun}
 use Rattle.leaps.specs.declared.list_runs.Progress.{Progress}
@@ -140,6 +141,19 @@ on-buffers budget extent e own other r own' false p long o =
       display-long = long;
       virt-long = refl;
     }
+
+-- the same after a branch on the buffer that the command draws on, each with its own names
+pub once-virtual : (budget : ℕ) (extent : Extent) (e : Engine) (d v : List ℕ) (x : Command) → x ≡ command_in e → x.to_virtual ≡ true
+    → (r : Visits) (own : List ℕ) → length own ≡ length v → OnceOn budget extent e v d r own
+    → (r' : Visits) (d' v' : List ℕ) → r' ≡ r → d' ≡ d → v' ≡ own → AtOnce budget extent e d v r' d' v'
+once-virtual budget extent e d v x is to r own long once r' d' v' p q s =
+    rw (p, q, s) (on-buffers budget extent e v d r own true (flag_is e x is (λ c. c.to_virtual) true to) long once)
+
+pub once-display : (budget : ℕ) (extent : Extent) (e : Engine) (d v : List ℕ) (x : Command) → x ≡ command_in e → x.to_virtual ≡ false
+    → (r : Visits) (own : List ℕ) → length own ≡ length d → OnceOn budget extent e d v r own
+    → (r' : Visits) (d' v' : List ℕ) → r' ≡ r → d' ≡ own → v' ≡ v → AtOnce budget extent e d v r' d' v'
+once-display budget extent e d v x is to r own long once r' d' v' p q s =
+    rw (p, q, s) (on-buffers budget extent e d v r own false (flag_is e x is (λ c. c.to_virtual) false to) long once)
 
 -- in a turn the budget is not spent, and list and memory have the entry
 pub in-turn : (l : List ℕ) (c₀ c : Cursor) (budget k end : ℕ) → end ≡ min (end_of c₀.span) (length l / 5) → c.span ≡ c₀.span

@@ -23,7 +23,6 @@ use Rattle.commands.proofs.Visiting.{visits-registers}
 use Rattle.leaps.specs.declared.hatched.Burst.{Burst}
 use Rattle.leaps.specs.declared.visits.Visits.{Visits}
 use Rattle.leaps.specs.Leaps.{Visited, with_tile, left_in, rest_in, Bursts, VisitsDone, after_visits, NoneDone, SomeDone, StrokeDone, BlitDone, TiledDone, OnceOn}
-use Rattle.lists.specs.declared.cursors.Cursor.{Cursor}
 use Rattle.leaps.specs.ListRuns.{Going, HatchDone}
 use Rattle.leaps.proofs.Visiting.{Fit, AreVisits}
 use Rattle.leaps.proofs.Rows.{blit-visits, tiled-visits}

@@ -19,7 +19,7 @@ use Rattle.lists.specs.declared.cursors.Next.{Next}
 use Rattle.lists.specs.declared.cursors.Next.TheVariants.{Ended, Visit, Take, Broken}
 use Rattle.lists.proofs.Fetches.{next-visit, next-over, broken-going, chosen}
 use Rattle.commands.specs.Visits.{shows, count_of}
-use Rattle.commands.specs.Steps.{Scene, scene, advanced_by, advanced_of, visit_by, visit_of, visits_by, visits_of, entered_of, taken_of}
+use Rattle.commands.specs.Steps.{Scene, advanced_by, advanced_of, visit_by, visit_of, visits_by, visits_of, entered_of, taken_of}
 use Rattle.commands.specs.declared.Engine.{Engine}
 use Rattle.commands.proofs.Bounds.{count_same}
 use Rattle.commands.proofs.Triggers.{put-entered}

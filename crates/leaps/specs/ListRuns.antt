@@ -1,16 +1,13 @@
 -- Steps of one display list, one after the other (01, Steps).
-use Rattle.std.specs.Prelude.{◌≡◌, Bool, true, false, cond, List, ℕ, zero, suc, ◌+◌, ◌-◌, ◌≤◌, ◌<◌, ltb, length}
+use Rattle.std.specs.Prelude.{◌≡◌, Bool, true, false, List, ℕ, zero, suc, ◌+◌, ◌-◌, ◌≤◌, ◌<◌, length}
 use Rattle.geometry.specs.declared.Extent.{Extent}
 use Rattle.lists.specs.Spans.{end_of}
 use Rattle.lists.specs.Cursors.{next_of, fetched_of}
 use Rattle.lists.specs.declared.cursors.Cursor.{Cursor}
 use Rattle.lists.specs.declared.cursors.Next.{Next}
 use Rattle.lists.specs.declared.cursors.Next.TheVariants.{Ended, Visit, Take, Broken}
-use Rattle.commands.specs.Visits.{count_of}
-use Rattle.tiles.specs.Tiles.{no_fill}
-use Rattle.tiles.specs.declared.Fill.{Fill}
 use Rattle.commands.specs.Hatching.{hatches, fill_after}
-use Rattle.commands.specs.Steps.{Scene, scene, visit_of, visits_of, taken_of}
+use Rattle.commands.specs.Steps.{Scene, scene, visit_of, taken_of}
 use Rattle.commands.specs.declared.Engine.{Engine}
 use Rattle.leaps.specs.declared.list_runs.Progress.{Progress}
 use Rattle.leaps.specs.declared.hatched.Burst.{Burst}

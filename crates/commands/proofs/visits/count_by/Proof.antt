@@ -3,7 +3,7 @@
 use mathlib.Core.Bool.{Bool, true, false}
 use mathlib.Core.Path.{◌≡◌, ap, sym, ◌∙◌}
 use borrow.Author.Rules.{rules}
-use Rattle.entries.specs.Fields.{command_of, is_blit, is_polyline, is_line}
+use Rattle.entries.specs.Fields.{command_of, is_blit, is_line}
 use Rattle.commands.proofs.Tests.{count-blit, count-line, count_none}
 use Rattle.commands.specs.Entering.{numbered}
 use Rattle.commands.specs.declared.Engine.{Engine}

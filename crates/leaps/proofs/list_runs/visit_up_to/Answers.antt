@@ -2,34 +2,26 @@
 -- under way (`burst-done`).
 use Rattle.leaps.proofs.Running.{burst-done}
 use native.Mathlib.Omega.{arith}
-use Prim.Native.Nat.{◌-◌, max}
+use Prim.Native.Nat.{ℕ, ◌-◌, max}
 use mathlib.Core.Path.{◌≡◌, ap, ◌∙◌}
 use borrow.Author.Rules.{rules}
-use Rattle.leaps.specs.Leaps.{left_in}
 use Rattle.leaps.proofs.list_runs.visit_up_to.Goals as goal
 
 pub min-n-requires : goal.min-n-requires
 min-n-requires c = search rules
 
-left_is : (c : goal.After-max-left) →
-    let s = c.args in
-    c.max-left.result ≡ left_in s.extent s.e
-left_is c =
-    let start = c.before.before.before.before.before in
-    c.max-left.ensures ∙ ap (max 1) (c.saturating_sub.ensures ∙ ap (λ n. n - start.args.e.visited) start.requires.2)
+-- what is left, and at least 1
+left_is : (visited : ℕ) {left rest count counted : ℕ} → left ≡ max 1 rest → rest ≡ count - visited → count ≡ counted
+    → left ≡ max 1 (counted - visited)
+left_is visited most less same = most ∙ ap (max 1) (less ∙ ap (λ n. n - visited) same)
 
 pub visit_rest-requires : goal.visit_rest-requires
 visit_rest-requires c =
-    let few = c.before.before in
-    let start = few.before.before.before.before.before.before in
-    let left = left_is few.before in
-    (start.requires.0, omega (arith, start.requires.1, few.min-n.ensures, left), omega (arith, few.min-n.ensures, left), start.requires.2)
+    let left = left_is c.args.e.visited c.max-left.ensures c.saturating_sub.ensures c.requires.2 in
+    (c.requires.0, omega (arith, c.requires.1, c.min-n.ensures, left), omega (arith, c.min-n.ensures, left), c.requires.2)
 
 pub returns : goal.returns
 returns c =
-    let done = c.before.before.before.before in
-    let few = done.before.before.before in
-    let start = few.before.before.before.before.before.before in
-    let s = start.args in
-    burst-done s.budget s.extent s.e s.display.now s.virt.now _ _ start.requires.0 start.requires.1 (left_is few.before)
-    few.min-n.ensures _ _ _ done.visit_rest.ensures
+    let s = c.args in
+    burst-done s.budget s.extent s.e s.display.now s.virt.now _ _ c.requires.0 c.requires.1
+    (left_is c.args.e.visited c.max-left.ensures c.saturating_sub.ensures c.requires.2) c.min-n.ensures _ _ _ c.visit_rest.ensures

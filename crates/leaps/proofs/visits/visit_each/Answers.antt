@@ -1,7 +1,6 @@
 -- The loop's invariant: k visits are done, k at most n, and the buffers have their lengths; each turn is one visit more
 -- (`visits-more`). The measure is n - k.
 use mathlib.Core.Path.{◌≡◌, refl, ap, ◌∙◌}
-use Prim.Native.Nat.{◌-◌}
 use native.Mathlib.Omega.{arith}
 use Rattle.commands.specs.Steps.{scene, visits_of}
 use Rattle.commands.proofs.Visiting.{visits-none, visits-more}

@@ -6,37 +6,18 @@ use Rattle.leaps.proofs.visits.visit_tiled.Goals as goal
 
 pub returns-then-count-budget : goal.returns-then-count-budget
 returns-then-count-budget c =
-    let count = c.before.before.before in
-    let window = count.before in
-    let start = window.before.before.before.before.before.before in
-    let s = start.args in
-    tiled-none s.budget s.extent s.e s.own.now s.other.now start.requires.0 _ _ window.window-window.ensures count.visible_count-count.ensures
+    let s = c.args in
+    tiled-none s.budget s.extent s.e s.own.now s.other.now c.requires.0 _ _ c.window-window.ensures c.visible_count-count.ensures
 
 pub returns-then-fill : goal.returns-then-fill
 returns-then-fill c =
-    let done = c.before.before in
-    let all = done.before.before in
-    let made = all.before.before in
-    let whole = made.before in
-    let f = whole.before in
-    let chosen = f.before.before.before.before.before in
-    let count = chosen.before.before.before in
-    let window = count.before in
-    let named = window.before.before in
-    let start = named.before.before.before in
-    let s = start.args in
-    tiled-drawn s.budget s.extent s.e s.own.now s.other.now start.requires.0 _ _ window.window.ensures count.visible_count.ensures _
-    named.command_of.ensures chosen.if1.false _ refl _ f.source_tile-fill.ensures whole.if-fill.true _ made.tiling-t.ensures _ all.blit_count.ensures _
-    done.draw_tiled.ensures
+    let s = c.args in
+    tiled-drawn s.budget s.extent s.e s.own.now s.other.now c.requires.0 _ _ c.window-window.ensures c.visible_count-count.ensures _
+    c.command_of-c.ensures c.if-count-budget.false _ refl _ c.source_tile-fill.ensures c.if-fill.true _ c.tiling-t.ensures _ c.blit_count.ensures _
+    c.draw_tiled.ensures
 
 pub returns-else-fill : goal.returns-else-fill
 returns-else-fill c =
-    let f = c.before in
-    let chosen = f.before.before.before.before.before in
-    let count = chosen.before.before.before in
-    let window = count.before in
-    let named = window.before.before in
-    let start = named.before.before.before in
-    let s = start.args in
-    tiled-missing s.budget s.extent s.e s.own.now s.other.now start.requires.0 _ _ window.window.ensures count.visible_count.ensures _
-    named.command_of.ensures chosen.if1.false _ refl _ f.source_tile-fill.ensures c.if-fill.false
+    let s = c.args in
+    tiled-missing s.budget s.extent s.e s.own.now s.other.now c.requires.0 _ _ c.window-window.ensures c.visible_count-count.ensures _
+    c.command_of-c.ensures c.if-count-budget.false _ refl _ c.source_tile-fill.ensures c.if-fill.false
