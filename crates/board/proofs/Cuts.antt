@@ -7,10 +7,10 @@ use Prim.Native.Nat.{ℕ, ◌≤◌}
 use Rattle.lemmas.proofs.Booleans.{and_left, and_right, and-true}
 use Rattle.slots.specs.Slots.{slot_of}
 use Rattle.slots.proofs.Slotted.{span_of, slot-taken, active-span}
-use Rattle.feeds.specs.Feeds.{LentFeed, feed_report}
+use Rattle.feeds.specs.Feeds.{LentFeed}
 use Rattle.feeds.proofs.Cutting.{two-first, two-accepted, two-same}
 use Rattle.board.specs.Record.{well_formed}
-use Rattle.board.specs.Feeding.{Line, FeedReply, handed, feed_on, accepted, throughout, at_last, whole, CutAs, Cuts}
+use Rattle.board.specs.Feeding.{Line, FeedReply, handed, feed_on, accepted, throughout, at_last, whole, Cuts}
 use Rattle.board.specs.declared.record.Board.{Board}
 use Rattle.board.proofs.Forms.{good_of}
 use Rattle.board.proofs.Feeds.{said, feed-by, feed-board, accepted-well}

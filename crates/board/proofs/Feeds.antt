@@ -10,15 +10,13 @@ use borrow.Author.Tests.{eqb-false, lt-leb}
 use Rattle.lemmas.proofs.Booleans.{by_cases, of_either}
 use Rattle.answers.specs.Reports.{report}
 use Rattle.slots.specs.Slots.{slot_of}
-use Rattle.slots.specs.declared.record.Sizes.{Sizes}
-use Rattle.slots.specs.declared.record.Slot.{Slot}
 use Rattle.slots.proofs.Grounds.{NumberAlone}
 use Rattle.feeds.specs.Feeds.{LentFeed, start_at, feed_report}
 use Rattle.feeds.specs.declared.Feed.{Feed}
 use Rattle.feeds.proofs.Reporting.{feed-malformed, feed-leaves, feed-number, ends-refused, feed-stores}
 use Rattle.board.specs.Record.{well_formed}
 use Rattle.board.specs.Calls.{kept_by}
-use Rattle.board.specs.Feeding.{Line, line, FeedReply, handed, feed_call, feed_on, accepted, RefusedFeed, CountsAsStore, StartsPast}
+use Rattle.board.specs.Feeding.{line, FeedReply, handed, feed_call, accepted, RefusedFeed, CountsAsStore, StartsPast}
 use Rattle.board.specs.declared.record.Board.{Board}
 use Rattle.board.proofs.Replies.{store_by}
 

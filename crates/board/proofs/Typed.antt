@@ -1,14 +1,13 @@
 -- What the types say of a board record: the tile of its fill has eight rows of sixteen pixels. A record in a contract has lists of any
 -- length; that an argument's have those of its type is part of what its relation says.
 -- Assumes nothing.
-use mathlib.Core.Path.{◌≡◌, sym, ◌∙◌}
-use mathlib.Core.List.{List, [], ◌∷◌, map}
+use mathlib.Core.Path.{◌≡◌}
+use mathlib.Core.List.{List, [], ◌∷◌}
 use Prim.Native.Nat.{ℕ, zero, suc, ◌<◌}
 use native.Mathlib.Omega.{arith}
-use borrow.Author.Rules.{length_unmapped}
 use denote.Array.{each}
 use denote.Shadow.{shadow}
-use lib.ListN.{length, get_or, length-map}
+use lib.ListN.{length, get_or}
 use mir.Val.{Val}
 use Rattle.tiles.specs.Tiles.{no_row, Sized}
 use Rattle.tiles.specs.declared.Row.{Row}

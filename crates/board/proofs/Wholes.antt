@@ -10,9 +10,9 @@ use lib.Dec.{leb}
 use lib.ListN.{length}
 use Rattle.lemmas.proofs.Booleans.{by_cases}
 use Rattle.entries.specs.declared.decoding.Entry.{Entry}
-use Rattle.commands.specs.Visits.{shows, every}
+use Rattle.commands.specs.Visits.{shows}
 use Rattle.commands.specs.Steps.{Scene, visit_of, taken_of}
-use Rattle.commands.specs.Wholes.{done_by, done_of}
+use Rattle.commands.specs.Wholes.{done_of}
 use Rattle.commands.proofs.Counts.{visit-done, take_done, none_done}
 use Rattle.commands.proofs.Unchanged.{picture-unchanged}
 use Rattle.lists.specs.Spans.{span_of}
@@ -32,7 +32,7 @@ use Rattle.board.specs.Wholes.{RunsToTheEnd, PostedUnchanged}
 use Rattle.board.specs.Calls.{posted_of, post_call}
 use Rattle.board.specs.declared.record.Board.{Board}
 use Rattle.board.proofs.Forms.{Good, good_of, none-waits, at_rest, pixels-of}
-use Rattle.board.proofs.Keeps.{stays-well-formed, settled-sizes, run-well}
+use Rattle.board.proofs.Keeps.{stays-well-formed, settled-sizes}
 use Rattle.board.proofs.Counts.{settled-to-come, settled-scene, none-to-come, ended-free, visit-left, take_left, stays-busy, busy-left}
 
 -- what the rest of both lists leaves

@@ -9,7 +9,6 @@ use lib.ListN.{length}
 use Rattle.board.specs.Calls.{Written, store_call, write_call}
 use Rattle.board.specs.Steps.{machine}
 use Rattle.board.specs.declared.record.Board.{Board}
-use Rattle.feeds.specs.declared.Feed.{Feed}
 use Rattle.board.specs.Feeding.{line, feed_call}
 use Rattle.board.proofs.Feeds.{refused-feed}
 use Rattle.board.specs.Picturing.{import_call}

@@ -4,11 +4,9 @@ use mathlib.Core.Path.{◌≡◌, refl, ap, sym, subst, ◌∙◌}
 use mathlib.Core.Bool.{Bool, true, false}
 use mathlib.Core.List.{List}
 use Prim.Native.Nat.{ℕ}
-use native.Mathlib.Omega.{arith}
 use borrow.Author.Tests.{eqb-true, eqb-false}
-use lib.Dec.{eqb}
 use Rattle.lemmas.proofs.Booleans.{by_cases}
-use Rattle.answers.specs.Reports.{Report, report}
+use Rattle.answers.specs.Reports.{report}
 use Rattle.geometry.specs.declared.Extent.{Extent}
 use Rattle.slots.specs.Slots.{slot_of}
 use Rattle.feeds.specs.Feeds.{joined, completed}
@@ -19,7 +17,6 @@ use Rattle.board.specs.Feeding.{Line, line, FeedReply, feed_call, accepted}
 use Rattle.board.proofs.Feeds.{said, feed-by, feed-board, feed-no-more, refused-feed, counts-as-store}
 use Rattle.statements.specs.Paper.{store, feed, Paper, fed}
 use Rattle.statements.specs.World.{World, world, Called, called}
-use Rattle.statements.specs.Demand.{BadFeed}
 use Rattle.statements.proofs.Abstract.{Valid}
 use Rattle.statements.proofs.Kept.{Kept, refused}
 use Rattle.statements.proofs.Storing.{stored_of, store_kept}

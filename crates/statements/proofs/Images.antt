@@ -17,7 +17,7 @@ use Rattle.board.specs.Steps.{machine}
 use Rattle.board.specs.Runs.{run_call}
 use Rattle.board.specs.Calls.{Reply, answered, fresh_board, sizes, make_call, post_call, Written, store_call, write_call}
 use Rattle.board.specs.declared.record.Board.{Board}
-use Rattle.board.specs.Feeding.{FeedReply, feed_call}
+use Rattle.board.specs.Feeding.{feed_call}
 use Rattle.board.specs.Picturing.{export_call, import_call}
 use Rattle.board.proofs.Imports.{export-no-more, import-no-more}
 use Rattle.board.proofs.Feeds.{feed-no-more}

@@ -8,8 +8,7 @@ use Prim.Native.Nat.{ℕ}
 use native.Mathlib.Omega.{arith}
 use borrow.Author.Tests.{eqb-true, eqb-false}
 use lib.Dec.{eqb}
-use Rattle.lemmas.proofs.Booleans.{by_cases, of_either}
-use Rattle.geometry.specs.declared.Extent.{Extent}
+use Rattle.lemmas.proofs.Booleans.{by_cases}
 use Rattle.pictures.specs.Pictures.{pixels_of}
 use Rattle.slots.specs.Slots.{slot_of}
 use Rattle.slots.proofs.Rasters.{import-answers, export-numbers}
@@ -18,7 +17,7 @@ use Rattle.board.specs.Picturing.{Exported, export_call, import_call}
 use Rattle.board.proofs.Imports.{export-by, export-board, import-by, import_said, import-stays, import-counts}
 use Rattle.statements.specs.Paper.{write, import, export, Paper, fed}
 use Rattle.statements.specs.World.{World, world, Called, called}
-use Rattle.statements.proofs.Abstract.{Valid, paper_of}
+use Rattle.statements.proofs.Abstract.{Valid}
 use Rattle.statements.proofs.Kept.{Kept, refused}
 use Rattle.statements.proofs.Writing.{to_display, to_virtual, write_kept}
 

@@ -19,7 +19,7 @@ use Rattle.slots.specs.declared.record.Sizes.{Sizes}
 use Rattle.board.proofs.Forms.{Good, good_of, well-of}
 use Rattle.statements.specs.Paper.{Call, Paper, paper, fed}
 use Rattle.statements.specs.World.{World, world, Called, called, answers_to}
-use Rattle.statements.specs.Demand.{queue_spans, SlotsHold, Equal, NotMalformed, Reports, Throughout, Demand3}
+use Rattle.statements.specs.Demand.{queue_spans, SlotsHold, Equal, Reports, Throughout, Demand3}
 use Rattle.statements.proofs.Abstract.{paper_of, Valid, slots-hold}
 use Rattle.statements.proofs.Kept.{Kept}
 use Rattle.statements.proofs.Commutes.{keeps, reports}

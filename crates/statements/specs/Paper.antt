@@ -1,5 +1,5 @@
 -- The paper board (01, The paper board of demand 3).
-use Rattle.std.specs.Prelude.{Bool, true, false, cond, List, [], ◌∷◌, ◌++◌, ℕ, zero, suc, ◌+◌, ◌*◌, eqb}
+use Rattle.std.specs.Prelude.{Bool, true, false, cond, List, [], ◌∷◌, ◌++◌, ℕ, zero, suc, ◌*◌, eqb}
 use Rattle.entries.specs.declared.decoding.Entry.{Entry}
 use Rattle.lemmas.specs.Memory.{put_into}
 use Rattle.geometry.specs.declared.Extent.{Extent}

@@ -1,9 +1,8 @@
 -- An image with a bad flag is refused as it is (`run-refused`). A fill that it holds is the run (`hatched-whole`), or the lists go on
 -- with no tile held (`Free`); they end it (`lists-whole`), or the budget cuts a fill, whose pixels end it (`last-whole`).
-use mathlib.Core.Path.{◌≡◌, ap, sym, ◌∙◌}
+use mathlib.Core.Path.{sym, ◌∙◌}
 use native.Mathlib.Omega.{arith}
 use mathlib.Core.Logic.{⊎_elim}
-use lib.ListN.{length}
 use Rattle.pramolyt.proofs.Calls.{run-refused, run-done}
 use Rattle.pramolyt.proofs.RunParts.{Free, hatched-whole, free-later, free-now, lists-few, lists-whole, last-few, last-whole}
 use borrow.Author.Rules.{rules}

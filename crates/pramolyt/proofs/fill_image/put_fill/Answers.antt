@@ -4,7 +4,7 @@ use native.Mathlib.Omega.{arith}
 use borrow.Author.Rules.{rules}
 use borrow.Author.Tests.{not-true, not-false}
 use mathlib.Core.Path.{ap, ◌∙◌}
-use Prim.Native.Nat.{◌+◌, ◌-◌}
+use Prim.Native.Nat.{◌+◌}
 use lib.ListN.{length-set, set}
 use Rattle.lemmas.proofs.Turns.{turn-none, turn_more, turn_end}
 use Rattle.pramolyt.specs.FillImage.{fill_at, tile_at}

@@ -1,9 +1,7 @@
 -- The loop keeps `Filled`: i pixels are read. Each turn reads one more (`fill-set`).
 use native.Mathlib.Omega.{arith}
 use mathlib.Core.Path.{refl}
-use Prim.Native.Nat.{◌-◌}
 use Rattle.lemmas.proofs.Filling.{fill_start, fill-set, fill_end}
-use Rattle.pramolyt.specs.FillImage.{pixel_in}
 use Rattle.pramolyt.proofs.fill_image.row_in.Goals as goal
 
 pub loop-i-init : goal.loop-i-init

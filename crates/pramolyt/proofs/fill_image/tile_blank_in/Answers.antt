@@ -1,7 +1,6 @@
 -- The loop keeps that so far the test is `all_below i`; each turn is one word more (`turn_more`).
 use native.Mathlib.Omega.{arith}
 use mathlib.Core.Path.{refl}
-use Prim.Native.Nat.{◌-◌}
 use Rattle.lemmas.proofs.Turns.{turn-none, turn_more, turn_end}
 use Rattle.pramolyt.proofs.fill_image.tile_blank_in.Goals as goal
 

@@ -1,9 +1,7 @@
 -- The loop keeps `Filled`: j rows are read. Each turn reads one more (`fill-set`).
 use native.Mathlib.Omega.{arith}
 use mathlib.Core.Path.{refl}
-use Prim.Native.Nat.{◌-◌}
 use Rattle.lemmas.proofs.Filling.{fill_start, fill-set, fill_end}
-use Rattle.pramolyt.specs.FillImage.{row_in}
 use Rattle.pramolyt.proofs.fill_image.tile_in.Goals as goal
 
 pub loop-j-init : goal.loop-j-init
