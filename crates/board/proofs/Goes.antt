@@ -89,18 +89,18 @@ leads-more : (l : List ℕ) (m o : Machine) (x : Next) (r : Reached) → next_on
     → well_formed m.board ≡ true → act_of x m ≡ machine (settled_of o.board) o.display o.virt → after m r ≡ after o r
     → (well_formed o.board ≡ true → over o.board ≡ false → Leads l o r)
     → (over o.board ≡ true → r ≡ stopped o.board.active.cursor (scene_of o) false) → Leads l m (longer 1 r)
-leads-more l m o x r e goes w acts same more None-more =
+leads-more l m o x r e goes w acts same more none-more =
     by_cases (over o.board)
     (λ t.
-    let there : after m r ≡ step_of l m = same ∙ ap (after o) (None-more t) ∙ sym stepped in
-    let none : r.steps ≡ 0 = ap (λ (r : Reached). r.steps) (None-more t) in
+    let there : after m r ≡ step_of l m = same ∙ ap (after o) (none-more t) ∙ sym stepped in
+    let none : r.steps ≡ 0 = ap (λ (r : Reached). r.steps) (none-more t) in
     let single : r.steps + 1 ≡ 1 = omega arith in
     record {
       well = subst (λ n. well_formed n.board ≡ true) (sym there) (stays-well-formed l m w);
       run = λ k.
           ap (λ j. run_of (k + j) l m) single ∙ ap (λ j. run_of j l m) (add-one k) ∙ one k
           ∙ ap (λ n. added 1 (run_of k l n)) (sym there) ∙ ap (λ j. added j (run_of k l (after m r))) (sym single);
-      stops = λ b. absurd (false≢true (sym (ap (λ (r : Reached). r.broken) (None-more t)) ∙ b));
+      stops = λ b. absurd (false≢true (sym (ap (λ (r : Reached). r.broken) (none-more t)) ∙ b));
     })
     (λ t.
     let here : step_of l m ≡ o = stepped ∙ ap (λ b. machine b o.display o.virt) (settle-live o.board t) in

@@ -53,7 +53,7 @@ shows extent g CellPast = false
 unfoldable pub every : Rule
 every extent g cell = true
 
--- The cells that a blit visits, in order. What follows takes the rule as `By`, and is that of R-6 as `Of` or `At`.
+-- The cells that a blit visits, in order. What follows takes the rule as `_by`, and is that of R-6 as `_of` or `_at`.
 abbrev pub cells_by : Rule → Extent → Registers → List Cell
 cells_by rule extent g = filtered (rule extent g) (blit_cells g.xy2)
 

@@ -1,6 +1,6 @@
-// The exported C functions, as include/pramolyt.h declares them. The board record is an image of 32-bit words, which
-// the caller keeps; each call answers document 01's number (What the engine has, and What the host hears). Each name ends in
-// the edition of the record and of the arguments: a change of either changes the names, here and in the header.
+// The calls of C, as include/pramolyt.h declares them; `pramolyt_c` exports them. The board record is an image of 32-bit words,
+// which the caller keeps; each call answers document 01's number (What the engine has, and What the host hears). Each name ends
+// in the edition of the record and of the arguments: a change of either changes the names, here, there and in the header.
 
 #![tactic(auto)]
 

@@ -129,17 +129,17 @@ unfolding in_turn
 moves-none c n p e = rw e
 
 -- of a state in range
-module _ (c : PatternControl) (p : Pattern) (IsPlace-in : p.place < c.length) (repeat-in : p.repeat < c.scale) where
+module _ (c : PatternControl) (p : Pattern) (place-in : p.place < c.length) (repeat-in : p.repeat < c.scale) where
   place_still : (p.place + 0) % c.length ≡ p.place
-  place_still = let in-still : p.place + 0 < c.length = omega (arith, IsPlace-in) in mod-eq_of_lt in-still ∙ omega arith
+  place_still = let in-still : p.place + 0 < c.length = omega (arith, place-in) in mod-eq_of_lt in-still ∙ omega arith
 
   placed-in : (turns : ℕ) → place_after c turns p ≡ (p.place + turns) % c.length
   placed-in turns =
       by_cases (eqb turns 0)
       (λ t. rw (t, eqb-true turns 0 t) (sym place_still))
       (λ t.
-      let least : min p.place (c.length - 1) ≡ p.place = omega (arith, IsPlace-in) in
-      let long : c.length - 1 + 1 ≡ c.length = omega (arith, IsPlace-in) in
+      let least : min p.place (c.length - 1) ≡ p.place = omega (arith, place-in) in
+      let long : c.length - 1 + 1 ≡ c.length = omega (arith, place-in) in
       rw (t, least, long))
 
   in-one-go : (n : ℕ)
@@ -165,9 +165,9 @@ module _ (c : PatternControl) (p : Pattern) (IsPlace-in : p.place < c.length) (r
 pub moves-in-one-go : MovesInOneGo
 unfolding in_range
 moves-in-one-go c n p h =
-    let IsPlace-in = ltb p.place c.length in
+    let place-in = ltb p.place c.length in
     let repeat-in = ltb p.repeat c.scale in
-    in-one-go c p (ltb-true p.place c.length (and_left IsPlace-in repeat-in h)) (ltb-true p.repeat c.scale (and_right IsPlace-in repeat-in h)) n
+    in-one-go c p (ltb-true p.place c.length (and_left place-in repeat-in h)) (ltb-true p.repeat c.scale (and_right place-in repeat-in h)) n
 
 -- a place on a wheel is in the machine's numbers
 pub turned-small : (x last n : ℕ) → last ≡ n - 1 → n < 4294967296 → x % (last + 1) < 4294967296
