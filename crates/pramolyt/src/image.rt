@@ -31,7 +31,7 @@ pub(crate) const FILL: usize = 28;
 
 pub(crate) const TILE: usize = 29;
 
-pub(crate) const WORDS: usize = 61;
+pub const WORDS: usize = 61;
 
 fn flag(b: bool) -> u32
     ensures { result ≡ flag_of b }

@@ -14,7 +14,8 @@ mod image;
 
 use board::Board;
 use feeds::Feed;
-use image::{FILL, WORDS, decode, decode_bare, encode, encode_bare, flags_ok};
+pub use image::WORDS;
+use image::{FILL, decode, decode_bare, encode, encode_bare, flags_ok};
 use packing::{pack, unpack};
 
 pub fn pramolyt_make_r2(

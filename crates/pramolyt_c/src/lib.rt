@@ -7,7 +7,7 @@ ghost use Rattle.std.specs.Prelude.{◌≡◌};
 ghost use Rattle.pramolyt.specs.Exports.{made, make_image, posted, post_image, changed, store_image, write_image, pictured, export_image, import_image, ran, run_image, feed_of, received, feed_image, filed, pack_file, unpack_file};
 ghost use Rattle.feeds.specs.Feeds.{start_at};
 
-const WORDS: usize = 61;
+use pramolyt::WORDS;
 
 #[unsafe(no_mangle)]
 pub extern "C" fn pramolyt_make_r2(
