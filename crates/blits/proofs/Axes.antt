@@ -14,7 +14,7 @@ use Rattle.blits.specs.Blits.{reads, source_width, target_at, source_at, visible
 use Rattle.blits.specs.Ranges.{range_of, in_both, visible_range, visible_columns, visible_rows}
 use Rattle.blits.specs.Places.{target_row, source_row}
 use Rattle.blits.specs.declared.Blit.{Blit}
-use Rattle.blits.specs.declared.ranges.Range.{Range}
+use Rattle.geometry.specs.declared.visible.Range.{Range}
 use Rattle.blits.proofs.Visits.{range-in, range-by, x-from, y-from, point_at_lem, visible-of, visible-by}
 
 -- j on one axis: in the window, and its source in the buffer

@@ -1,14 +1,12 @@
 -- Bounds of products and sums of coordinates.
 -- Assumes nothing.
 use mathlib.Core.Path.{◌≡◌, ap}
-use Prim.Native.Nat.{ℕ, ◌+◌, ◌-◌, ◌*◌, ◌^◌, ◌/◌, ◌≤◌, ◌<◌}
+use Prim.Native.Nat.{ℕ, ◌+◌, ◌*◌, ◌^◌, ◌/◌, ◌≤◌, ◌<◌}
 use native.Mathlib.Nat.{mul_comm, mul-le-mul, div-add-mod, mod-lt}
 use native.Mathlib.Omega.{arith}
-use mathlib.Core.Bool.{◌&&◌}
 use borrow.Author.Tests.{leb-true, leb-false}
 use lib.Dec.{leb}
 use Rattle.lemmas.proofs.Booleans.{by_cases}
-use Rattle.rows.proofs.Fitting.{fits_by, fits_not}
 use Rattle.geometry.specs.Coordinates.{point_of}
 use Rattle.blits.specs.Blits.{source_pixels}
 use Rattle.blits.specs.declared.Paint.{Paint}
@@ -26,13 +24,6 @@ x_below word = omega arith
 pub y-below : (word : ℕ) → (point_of word).y < 131072
 unfolding point_of
 y-below word = omega arith
-
--- n visits from visit `first` on, of so many
-pub fits_in : (first n count : ℕ) → (leb n count && leb first (count - n)) ≡ leb (first + n) count
-fits_in first n count =
-    by_cases (leb n count)
-    (λ t. let h = leb-true n count t in rw t (fits_by count first n h))
-    (λ t. let h = leb-false n count t in rw t (fits_not count first n h))
 
 -- whole rows of a width
 pub div-fits : (n w : ℕ) → w * (n / w) ≤ n

@@ -1,7 +1,7 @@
 -- The visits of a blit's rows are a box of columns and rows, painted row after row.
 -- Assumes nothing.
 use mathlib.Core.Path.{◌≡◌, refl, ap, ap₂, sym, subst, ◌∙◌}
-use mathlib.Core.Bool.{Bool, true, false, false≢true}
+use mathlib.Core.Bool.{Bool, true, false, false≢true, ◌||◌}
 use mathlib.Core.List.{List}
 use mathlib.Core.Logic.{◌⊎◌, ⊎_elim}
 use Prim.Native.Nat.{ℕ, ◌+◌, ◌-◌, ◌*◌, ◌≤◌, ◌<◌, min, max}
@@ -10,7 +10,7 @@ use native.Mathlib.Omega.{arith}
 use borrow.Author.Tests.{leb-true, leb-false}
 use lib.Dec.{leb}
 use lib.ListN.{length}
-use Rattle.lemmas.proofs.Booleans.{by_cases}
+use Rattle.lemmas.proofs.Booleans.{by_cases, or-first, or-none-left, or-none-right}
 use Rattle.lemmas.specs.Turns.{in_turn}
 use Rattle.lemmas.proofs.Turns.{turn-none, turn_agree, turn-idle, turn-part}
 use Rattle.geometry.specs.Coordinates.{origin, point_of}
@@ -19,11 +19,10 @@ use Rattle.lemmas.specs.Sweeps.{sweep}
 use Rattle.blits.specs.Blits.{reads, source_pixels, source_width, visited}
 use Rattle.blits.specs.Ranges.{visible_columns, visible_rows, part_of}
 use Rattle.blits.specs.Places.{target_row, source_row, left_edge, place_at}
-use Rattle.blits.specs.Rows.{row_of, row_at, box_of, RowsFit, BoxFits}
-use Rattle.blits.specs.Tiled.{BoxInside}
+use Rattle.blits.specs.Rows.{row_of, row_at, box_of, RowsFit, BoxFits, BoxInside}
 use Rattle.blits.specs.declared.Blit.{Blit}
 use Rattle.blits.specs.declared.Paint.{Paint}
-use Rattle.blits.specs.declared.ranges.Range.{Range}
+use Rattle.geometry.specs.declared.visible.Range.{Range}
 use Rattle.blits.proofs.Bounds.{source-small, rows-far, x_below, y-below}
 use Rattle.blits.proofs.Visits.{y-from}
 use Rattle.blits.proofs.Axes.{RowIn, row-of, row_by}
@@ -38,6 +37,14 @@ no-pixels paint true other at from l = refl
 
 row-none : (paint : Paint) (back : Bool) (other : List ℕ) (at from n : ℕ) (l : List ℕ) → n ≡ 0 → row_of paint back other at from n l ≡ l
 row-none paint back other at from n l e = ap (λ n. row_of paint back other at from n l) e ∙ no-pixels paint back other at from l
+
+-- columns and rows of which there are some
+pub some-shown : (across down : Range) → (leb across.past across.from || leb down.past down.from) ≡ false
+    → (across.from < across.past) × (down.from < down.past)
+some-shown across down h =
+    let p = leb across.past across.from in
+    let q = leb down.past down.from in
+    (leb-false across.past across.from (or-none-left p q h), leb-false down.past down.from (or-none-right p q h))
 
 module _ (paint : Paint) (width to from direction : ℕ) (across down : Range) (other l : List ℕ) where
   abbrev target : ℕ
@@ -68,6 +75,11 @@ module _ (paint : Paint) (width to from direction : ℕ) (across down : Range) (
       let none : 0 ≡ down.past - down.from = omega arith in
       turn-none (row_at paint (right_to_left direction) (bottom_to_top direction) width stride other target source (across.past - across.from)) l
       ∙ ap (rows stride target source (across.past - across.from)) none
+
+  pub none-shown : (leb across.past across.from || leb down.past down.from) ≡ true → l ≡ box_of paint width to from direction across down other l
+  none-shown h =
+      by_cases (leb across.past across.from) (λ t. no-columns (leb-true across.past across.from t))
+      (λ t. no_rows (leb-true down.past down.from (or-first (leb across.past across.from) (leb down.past down.from) h t)))
 
   pub box-painted : (apart at start : ℕ) (k : List ℕ) → apart ≡ stride → at ≡ target
       → start ≡ place_at from apart direction across.from across.past down.from

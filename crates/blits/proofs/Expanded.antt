@@ -1,21 +1,18 @@
 -- Rows from bits: a few pixels more, one pixel more, and bits that no visit writes; what the loops over a row keep.
 -- Assumes nothing.
 use mathlib.Core.Path.{◌≡◌, refl, ap, ap₂, sym, subst, ◌∙◌}
-use mathlib.Core.Bool.{Bool, true, false, cond, ◌||◌}
+use mathlib.Core.Bool.{Bool, true, false, cond}
 use mathlib.Core.List.{List}
 use mathlib.Core.Logic.{◌⊎◌, inl, inr, ⊎_elim}
 use Prim.Native.Nat.{ℕ, ◌+◌, ◌-◌, ◌*◌, ◌/◌, ◌%◌, ◌≤◌, ◌<◌}
 use native.Mathlib.Omega.{arith}
-use borrow.Author.Tests.{eqb-true}
-use lib.Dec.{eqb}
 use lib.ListN.{length, get_or}
-use Rattle.lemmas.proofs.Booleans.{by_cases, or-first}
 use Rattle.lemmas.specs.Sweeps.{sweep}
 use Rattle.lemmas.proofs.Sweeps.{sweep-start, sweep-end, sweep-agree, sweep-join, sweep-stays}
 use Rattle.lemmas.proofs.Orders.{turned-from}
 use Rattle.stipples.specs.Stipples.{bit_in, bit_at, stippled}
 use Rattle.stipples.specs.declared.Stipple.{Stipple}
-use Rattle.blits.specs.Bits.{by_byte, expanded, expanded_within, expanded_back, BitsFit, Apart}
+use Rattle.blits.specs.Bits.{by_byte, expanded, expanded_within, expanded_back, BitsStay, Apart}
 use Rattle.blits.specs.declared.bits.BitPlace.{BitPlace}
 
 -- visit k writes at `to k` by the bit that `read k` has of the bytes as they stand
@@ -72,11 +69,6 @@ module _ (s : Stipple) (n at byte first : ℕ) (in-byte : first < 8) (apart : Ap
   bits-stay to value k x h inside =
       ap (bit_in ((from + x) % 8)) (sweep-stays to value l k ((from + x) / 8) (λ j p e. unwritten x (to j) h (inside j p).0 (inside j p).1 e))
 
-  bits-kept : (k : ℕ) (m : List ℕ) → k ≤ n → m ≡ expanded s k l at l from → (x : ℕ) → x < n → bit_at m (from + x) ≡ bit_at l (from + x)
-  bits-kept k m few e x h =
-      ap (λ m. bit_at m (from + x)) e
-      ∙ bits-stay (λ k. at + k) (λ k m. stippled s (bit_at l (from + k)) (get_or m (at + k) 0)) k x h (λ j p. (omega arith, omega arith))
-
   within-apart : expanded s n l at l from ≡ expanded_within s n l at from
   within-apart =
       sym
@@ -103,91 +95,69 @@ module _ (s : Stipple) (n at byte first : ℕ) (in-byte : first < 8) (apart : Ap
       ∙ bits-stay back_place back_value k (n - (k + 1)) (omega arith) (λ j q. (omega arith, omega arith)) ∙ ap (bit_at l) (sym same)))
       ∙ turned-from (λ i. stippled s (bit_at l i)) n l at from)
 
+  -- those of a row stay as they are
+  stay : (k i : ℕ) → k ≤ n → i < n → bit_at (expanded s k l at l from) (from + i) ≡ bit_at l (from + i)
+  stay k i few h =
+      bits-stay (λ k. at + k) (λ k m. stippled s (bit_at l (from + k)) (get_or m (at + k) 0)) k i h (λ j p. (omega arith, omega arith))
+
   -- in either direction
   pub own-apart : (back : Bool) (r : List ℕ) → r ≡ expanded s n l at l from → r ≡ cond back (expanded_back s n l at from) (expanded_within s n l at from)
   own-apart true r e = e ∙ back-apart
   own-apart false r e = e ∙ within-apart
 
 -- ---- eight pixels a turn
+pub apart-stay : (at byte first n : ℕ) → first < 8 → Apart at byte n → BitsStay (λ l. l) at byte first n
+apart-stay at byte first n small apart s l k i few h = stay s n at byte first small apart l k i few h
 
--- k of n pixels are drawn by bits of `source`, which left t; the next bits are those from bit `first` of byte i on
-pub record Expanding (s : Stipple) (n : ℕ) (l : List ℕ) (at : ℕ) (source : List ℕ) (byte first : ℕ) (t : List ℕ) (k i : ℕ) : Type 0 where
-  pub few : k ≤ n
+-- k times eight of n pixels are drawn by bits of `source`, which left t
+pub record Expanding (s : Stipple) (n : ℕ) (l : List ℕ) (at : ℕ) (source : List ℕ) (byte first : ℕ) (t : List ℕ) (k : ℕ) : Type 0 where
+  pub few : 8 * k ≤ n
   pub long : length t ≡ length l
-  pub here : 8 * i ≡ 8 * byte + k
-  pub drawn : t ≡ expanded s k l at source (8 * byte + first)
+  pub drawn : t ≡ expanded s (8 * k) l at source (8 * byte + first)
 
-pub expanding-start : (s : Stipple) (n : ℕ) (l : List ℕ) (at : ℕ) (source : List ℕ) (byte first : ℕ) → Expanding s n l at source byte first l 0 byte
-expanding-start s n l at source byte first = record { few = omega arith; long = refl; here = omega arith; drawn = sweep-start _ _ l }
+pub expanding-start : (s : Stipple) (n : ℕ) (l : List ℕ) (at : ℕ) (source : List ℕ) (byte first : ℕ) → Expanding s n l at source byte first l 0
+expanding-start s n l at source byte first = record { few = omega arith; long = refl; drawn = sweep-start _ _ l }
 
-module _ {s : Stipple} {n : ℕ} {l : List ℕ} {at : ℕ} {source : List ℕ} {byte first : ℕ} {t : List ℕ} {k i : ℕ}
-    (x : Expanding s n l at source byte first t k i) where
-  pub expanding-end : n ≤ k → t ≡ expanded s n l at source (8 * byte + first)
-  expanding-end h = sweep-end _ _ l k n t x.few h x.drawn
+module _ {s : Stipple} {n : ℕ} {l : List ℕ} {at : ℕ} {source : List ℕ} {byte first : ℕ} {t : List ℕ} {k : ℕ}
+    (x : Expanding s n l at source byte first t k) where
+  pub expanding-end : n ≤ 8 * k → t ≡ expanded s n l at source (8 * byte + first)
+  expanding-end h = sweep-end _ _ l (8 * k) n t x.few h x.drawn
 
-  module _ (m : ℕ) (h : k + m ≤ n) where
-    pub expanding-fits : (own : ℕ) → BitsFit byte first n own → BitsFit i first m own
-    expanding-fits own f = record { in-byte = f.in-byte; within = omega (arith, f.within, x.here) }
+  -- m pixels more, by bits of byte i
+  module _ (m i : ℕ) (h : 8 * k + m ≤ n) (next : i ≡ byte + k) where
+    -- where the bits of the row stay as they are, they are those that were there
+    pub stayed : (bytes : List ℕ → List ℕ) → source ≡ bytes l → BitsStay bytes at byte first n → (bits : ℕ)
+        → ((j : ℕ) → j < m → bit_in j bits ≡ bit_at (bytes t) (8 * i + first + j)) → (j : ℕ) → j < m → bit_in j bits ≡ bit_at source (8 * i + first + j)
+    stayed bytes e stay bits reads j p =
+        let same : 8 * i + first + j ≡ 8 * byte + first + (8 * k + j) = omega arith in
+        reads j p ∙ ap (bit_at (bytes t)) same
+        ∙ ap (λ t. bit_at (bytes t) (8 * byte + first + (8 * k + j))) (x.drawn ∙ ap (λ o. expanded s (8 * k) l at o (8 * byte + first)) e)
+        ∙ stay s l (8 * k) (8 * k + j) x.few (omega arith) ∙ ap (λ o. bit_at o (8 * byte + first + (8 * k + j))) (sym e) ∙ ap (bit_at source) (sym same)
 
-    -- m pixels by bits that were read of the source
-    expanding-more : (c : ℕ) (r : List ℕ) (bits : ℕ) → k + m ≡ c → r ≡ by_byte s m t (at + k) bits
+    pub expanding-more : (c place : ℕ) (r : List ℕ) (bits : ℕ) → 8 * k + m ≡ c → place ≡ at + 8 * k → r ≡ by_byte s m t place bits
         → ((j : ℕ) → j < m → bit_in j bits ≡ bit_at source (8 * i + first + j)) → r ≡ expanded s c l at source (8 * byte + first)
-    expanding-more c r bits e g reads =
-        expanded-more s k m c l t r at source (8 * byte + first) bits (at + k) (8 * i + first) e refl (omega (arith, x.here)) x.drawn g reads
+    expanding-more c place r bits e p g reads =
+        expanded-more s (8 * k) m c l t r at source (8 * byte + first) bits place (8 * i + first) e p (omega arith) x.drawn g reads
 
-    -- of the buffer itself, where no visit writes them
-    pub unwritten-bits : source ≡ l → first < 8 → Apart at byte n → (bits : ℕ) → ((j : ℕ) → j < m → bit_in j bits ≡ bit_at t (8 * i + first + j))
-        → (j : ℕ) → j < m → bit_in j bits ≡ bit_at source (8 * i + first + j)
-    unwritten-bits e small apart bits reads j p =
-        let same : 8 * i + first + j ≡ 8 * byte + first + (k + j) = omega (arith, x.here) in
-        reads j p ∙ ap (bit_at t) same
-        ∙ bits-kept s n at byte first small apart l k t x.few (x.drawn ∙ ap (λ o. expanded s k l at o (8 * byte + first)) e) (k + j) (omega arith)
-        ∙ ap (λ o. bit_at o (8 * byte + first + (k + j))) (sym e) ∙ ap (bit_at source) (sym same)
-
-  pub expanding-turn : (r : List ℕ) (bits : ℕ) → k + 8 ≤ n → length r ≡ length t → r ≡ by_byte s 8 t (at + k) bits
-      → ((j : ℕ) → j < 8 → bit_in j bits ≡ bit_at source (8 * i + first + j)) → Expanding s n l at source byte first r (k + 8) (i + 1)
-  expanding-turn r bits h e g reads =
-      record { few = h; long = e ∙ x.long; here = omega (arith, x.here); drawn = expanding-more 8 h (k + 8) r bits refl g reads }
-
-  -- the last pixels
-  pub expanding-rest : (r : List ℕ) (bits : ℕ) → r ≡ by_byte s (n - k) t (at + k) bits
-      → ((j : ℕ) → j < n - k → bit_in j bits ≡ bit_at source (8 * i + first + j)) → r ≡ expanded s n l at source (8 * byte + first)
-  expanding-rest r bits g reads = expanding-more (n - k) (omega (arith, x.few)) n r bits (omega (arith, x.few)) g reads
+  pub expanding-turn : (i place : ℕ) (r : List ℕ) (bits : ℕ) → 8 * k + 8 ≤ n → i ≡ byte + k → place ≡ at + 8 * k → length r ≡ length t
+      → r ≡ by_byte s 8 t place bits → ((j : ℕ) → j < 8 → bit_in j bits ≡ bit_at source (8 * i + first + j))
+      → Expanding s n l at source byte first r (k + 1)
+  expanding-turn i place r bits h next p e g reads =
+      record {
+        few = omega arith;
+        long = e ∙ x.long;
+        drawn = expanding-more 8 i h next (8 * (k + 1)) place r bits (omega arith) p g reads;
+      }
 
 -- ---- 8 or 16 pixels
-
-pub narrow-of : (n : ℕ) → (eqb n 8 || eqb n 16) ≡ true → (n ≡ 8) ⊎ (n ≡ 16)
-narrow-of n h = by_cases (eqb n 8) (λ t. inl (eqb-true n 8 t)) (λ t. inr (eqb-true n 16 (or-first (eqb n 8) (eqb n 16) h t)))
 
 pub eight-of : (n : ℕ) → (n ≡ 8) ⊎ (n ≡ 16) → 8 ≤ n
 eight-of n (inl e) = omega arith
 eight-of n (inr e) = omega arith
 
-only-eight : (n : ℕ) → (n ≡ 8) ⊎ (n ≡ 16) → (n ≡ 16 → ⊥) → n ≤ 8
+pub only-eight : (n : ℕ) → (n ≡ 8) ⊎ (n ≡ 16) → (n ≡ 16 → ⊥) → n ≤ 8
 only-eight n (inl e) h = omega arith
 only-eight n (inr e) h = absurd (h e)
-
--- eight are drawn, which left t
-module _ (s : Stipple) (n : ℕ) (l : List ℕ) (at : ℕ) (source : List ℕ) (byte first : ℕ) (two : (n ≡ 8) ⊎ (n ≡ 16)) (t : List ℕ) (bits : ℕ)
-    (long : length t ≡ length l) (drawn : t ≡ by_byte s 8 l at bits)
-    (read : (j : ℕ) → j < 8 → bit_in j bits ≡ bit_at source (8 * byte + first + j)) where
-  pub eight-drawn : Expanding s n l at source byte first t 8 (byte + 1)
-  eight-drawn =
-      record {
-        few = eight-of n two;
-        long = long;
-        here = omega arith;
-        drawn =
-            expanded-more s 0 8 8 l l t at source (8 * byte + first) bits at (8 * byte + first) refl (omega arith) (omega arith)
-            (sweep-start _ _ l) drawn read;
-      }
-
-  pub eight-only : (n ≡ 16 → ⊥) → t ≡ expanded s n l at source (8 * byte + first)
-  eight-only h = expanding-end eight-drawn (only-eight n two h)
-
-  pub eight-more : n ≡ 16 → (r : List ℕ) (bits' : ℕ) → length r ≡ length t → r ≡ by_byte s 8 t (at + 8) bits'
-      → ((j : ℕ) → j < 8 → bit_in j bits' ≡ bit_at source (8 * (byte + 1) + first + j)) → r ≡ expanded s n l at source (8 * byte + first)
-  eight-more e r bits' same g reads = expanding-end (expanding-turn eight-drawn r bits' (omega arith) same g reads) (omega arith)
 
 -- ---- one pixel a turn
 
@@ -195,27 +165,22 @@ module _ (s : Stipple) (n : ℕ) (l : List ℕ) (at : ℕ) (source : List ℕ) (
 pub record OneByOne (s : Stipple) (to of : ℕ → ℕ) (n : ℕ) (l t : List ℕ) (p : BitPlace) (next k : ℕ) : Type 0 where
   pub few : k ≤ n
   pub long : length t ≡ length l
-  pub in-byte : p.bit < 8
   pub here : 8 * p.byte + p.bit ≡ next
   pub drawn : t ≡ by s to (λ k w. bit_at w (of k)) k l
 
-pub one-start : (s : Stipple) (to of : ℕ → ℕ) (n : ℕ) (l : List ℕ) (p : BitPlace) (next : ℕ) → p.bit < 8 → 8 * p.byte + p.bit ≡ next
+pub one-start : (s : Stipple) (to of : ℕ → ℕ) (n : ℕ) (l : List ℕ) (p : BitPlace) (next : ℕ) → 8 * p.byte + p.bit ≡ next
     → OneByOne s to of n l l p next 0
-one-start s to of n l p next h e = record { few = omega arith; long = refl; in-byte = h; here = e; drawn = sweep-start _ _ l }
+one-start s to of n l p next e = record { few = omega arith; long = refl; here = e; drawn = sweep-start _ _ l }
 
 module _ {s : Stipple} {to of : ℕ → ℕ} {n : ℕ} {l t : List ℕ} {p : BitPlace} {next k : ℕ} (x : OneByOne s to of n l t p next k) where
-  pub one_end : n ≤ k → t ≡ by s to (λ k w. bit_at w (of k)) n l
-  one_end h = sweep-end _ _ l k n t x.few h x.drawn
-
   -- a pixel by the bit at q, with p' the next
-  pub one-turn : k < n → (q p' : BitPlace) (next' : ℕ) (r : List ℕ) (bits : ℕ) → 8 * q.byte + q.bit ≡ of k → p'.bit < 8 → 8 * p'.byte + p'.bit ≡ next'
+  pub one-turn : k < n → (q p' : BitPlace) (next' : ℕ) (r : List ℕ) (bits : ℕ) → 8 * q.byte + q.bit ≡ of k → 8 * p'.byte + p'.bit ≡ next'
       → length r ≡ length t → r ≡ by_byte s 1 t (to k) bits → ((j : ℕ) → j < 1 → bit_in j bits ≡ bit_at t (8 * q.byte + q.bit + j))
       → OneByOne s to of n l r p' next' (k + 1)
-  one-turn h q p' next' r bits e small e' same g reads =
+  one-turn h q p' next' r bits e e' same g reads =
       record {
         few = omega arith;
         long = same ∙ x.long;
-        in-byte = small;
         here = e';
         drawn = own-more s to of k l t r bits (to k) (8 * q.byte + q.bit) refl e x.drawn g reads;
       }

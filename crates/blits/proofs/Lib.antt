@@ -7,7 +7,8 @@ pub mod Rooms
 pub mod Words
 pub mod Blocks
 pub mod Expanded
-pub mod Rowed
+pub mod Stepping
+pub mod BitRows
 pub mod Loops
 pub mod Boxes
 pub mod RowBoxes

@@ -11,12 +11,11 @@ use lib.Dec.{leb, eqb}
 use lib.ListN.{length}
 use Rattle.lemmas.proofs.Booleans.{by_cases, and_left, and_right}
 use Rattle.geometry.specs.Blit.{width_of, height_of, blit_count}
-use Rattle.geometry.proofs.Blits.{factor-pos, count-lt}
+use Rattle.geometry.proofs.Blits.{factor-pos}
 use Rattle.lemmas.specs.Turns.{in_turn}
 use Rattle.blits.specs.Blits.{visited, window_inside, blit_fits, blitted, Fitting, AtOnce}
 use Rattle.blits.specs.declared.Blit.{Blit}
-use Rattle.lemmas.proofs.Turns.{turn-none, turn_end, turn-join, turn_agree}
-use Rattle.blits.proofs.Bounds.{div-fits, div-some}
+use Rattle.lemmas.proofs.Turns.{turn-none, turn-join, turn_agree}
 use Rattle.blits.proofs.Rooms.{RowFits}
 
 pub fitting-of : (b : Blit) (first n other own : ℕ) → blit_fits b first n other own ≡ true → Fitting b first n other own
@@ -64,27 +63,6 @@ pub record PartFits (b : Blit) (row rows c m other own : ℕ) : Type 0 where
   pub some : 0 < rows
   pub even : (k : ℕ) → k < rows → width_of b.size * k ≡ m * k
   pub each : (r : ℕ) → row ≤ r → r < row + rows → RowFits b r c m other own
-
--- one row, or whole rows, of those that are left
-pub one-at-once : (w c m left : ℕ) → c < w → m ≡ min left (w - c) → AtOnce w c m left 1
-one-at-once w c m left h e =
-    record {
-      some = omega arith;
-      fit = omega arith;
-      even = λ k p. (let none : k ≡ 0 = omega arith in rw none (omega arith));
-      ended = λ p. omega arith;
-    }
-
-pub rows-at-once : (w c m left : ℕ) → c < w → m ≡ min left (w - c) → w ≤ m → AtOnce w c m left (left / w)
-rows-at-once w c m left h e l =
-    let whole : m ≡ w = omega arith in
-    let start : c ≡ 0 = omega arith in
-    record {
-      some = div-some left w (omega arith) (omega arith);
-      fit = rw whole (div-fits left w);
-      even = λ k p. ap (λ m. m * k) (sym whole);
-      ended = λ p. rw (whole, start) (omega arith);
-    }
 
 -- all visits of a blit
 pub whole_part : (b : Blit) (first n other own : ℕ) → 0 < blit_count b.size → b.size < 4294967296 → Fitting b first n other own
@@ -151,12 +129,11 @@ visiting-start b other first n l some small f =
     }
 
 module _ {b : Blit} {other : List ℕ} {first n : ℕ} {l t : List ℕ} {row column k : ℕ} (v : Visiting b other first n l t row column k) where
-  -- the last visit is not too far
-  pub visiting-far : first + n < 18446744073709551616
-  visiting-far = omega (arith, v.fits.visits, count-lt b.size v.small)
-
-  pub visiting-end : n ≤ k → t ≡ in_turn (λ i. visited b other (first + i)) n l
-  visiting-end h = turn_end (λ i. visited b other (first + i)) l k n t v.few h v.done
+  -- how many are next, by a size that is the blit's
+  pub visiting-next : (size m rows : ℕ) → size ≡ b.size → k < n → m ≡ min (n - k) (size / 65536 - column)
+      → ((column : ℕ) → column < size / 65536 → m ≡ min (n - k) (size / 65536 - column) → AtOnce (size / 65536) column m (n - k) rows)
+      → (m ≡ min (n - k) (width_of b.size - column)) × AtOnce (width_of b.size) column m (n - k) rows
+  visiting-next size m rows same h e q = (rw same at e, rw (← same) (q column (omega (arith, (v.stands h).short, same)) e))
 
   -- the next visits, m in each of so many rows
   module _ (h : k < n) (m rows : ℕ) (e : m ≡ min (n - k) (width_of b.size - column))
@@ -176,9 +153,6 @@ module _ {b : Blit} {other : List ℕ} {first n : ℕ} {l t : List ℕ} {row col
         let w = width_of b.size in
         row_below w (height_of b.size) (w * (row + j) + column) (row + j) column
         (omega (arith, (v.stands h).here, mul-add w row j, q.even j p, row_ends j p, visiting-some, q.fit, v.fits.visits)) refl
-
-    pub visiting-narrow : column + m ≤ 65536
-    visiting-narrow = omega (arith, e, (v.stands h).short, v.small)
 
     pub visiting-low : row + rows ≤ 65536
     visiting-low = omega (arith, next_row (rows - 1) (omega (arith, q.some)), q.some)
@@ -224,3 +198,15 @@ pub blit-in : (b : Blit) (first n : ℕ) (other l : List ℕ) → blit_fits b fi
     → in_turn (λ i. visited b other (first + i)) n l ≡ blitted b first n other l
 unfolding blitted
 blit-in b first n other l e = ap (λ t. cond t (in_turn (λ i. visited b other (first + i)) n l) l) (sym e)
+
+-- where they pass: no visits, all of them, and some
+module _ (b : Blit) (first n : ℕ) (other l : List ℕ) (h : blit_fits b first n (length other) (length l) ≡ true) where
+  pub blit-none : n ≡ 0 → l ≡ blitted b first n other l
+  blit-none none = no-visits b first n other l none ∙ blit-in b first n other l h
+
+  pub blit-whole : n ≡ blit_count b.size → (k : List ℕ) → k ≡ in_turn (visited b other) (blit_count b.size) l → k ≡ blitted b first n other l
+  blit-whole all k e =
+      whole-first b first n other l k all (fitting-of b first n (length other) (length l) h).visits e ∙ blit-in b first n other l h
+
+  pub blit-some : (k : List ℕ) → k ≡ in_turn (λ i. visited b other (first + i)) n l → k ≡ blitted b first n other l
+  blit-some k e = e ∙ blit-in b first n other l h

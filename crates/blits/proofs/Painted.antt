@@ -1,22 +1,21 @@
 -- Rows by the paint: one drawn is a row of visits, from whatever source where nothing is read; and what the loops need.
 -- Assumes nothing.
-use mathlib.Core.Path.{◌≡◌, refl, ap, sym, subst, ◌∙◌}
+use mathlib.Core.Path.{◌≡◌, refl, ap, sym, ◌∙◌}
 use mathlib.Core.Bool.{Bool, true, false, cond}
-use mathlib.Core.List.{List}
+use mathlib.Core.List.{List, []}
 use Prim.Native.Nat.{ℕ, ◌+◌, ◌≤◌}
 use native.Mathlib.Omega.{arith}
 use lib.ListN.{length, get_or}
 use Rattle.raster.specs.declared.Pen.{Pen}
-use Rattle.rows.specs.Rows.{mixed, filled_row, copied_row, moved_row, moved_back_row, shifted_row, Plain}
+use Rattle.rows.specs.Rows.{mixed, filled_row, copied_row, moved_row, moved_back_row, shifted_row}
 use Rattle.rows.specs.declared.Mix.{Mix}
 use Rattle.lemmas.proofs.Orders.{turned-from}
 use Rattle.rows.proofs.Orders.{fill-turned, copy-turned}
-use Rattle.rows.proofs.Mixing.{mixed-plain}
 use Rattle.rows.proofs.Fitting.{filled_row_lem, copied-row, moved-row, moved-back-row, shifted_row_lem}
 use Rattle.stipples.specs.Stipples.{bit_at, stippled}
 use Rattle.stipples.specs.declared.Stipple.{Stipple}
-use Rattle.blits.specs.Blits.{painted, reads, source_pixels}
-use Rattle.blits.specs.Rows.{row_of, RowsFit, PaintFits}
+use Rattle.blits.specs.Blits.{painted, reads}
+use Rattle.blits.specs.Rows.{row_of}
 use Rattle.blits.specs.Bits.{expanded, expanded_within, expanded_back}
 use Rattle.blits.specs.declared.Paint.{Paint}
 use Rattle.blits.specs.declared.Paint.TheVariants.{Solid, Copied, Moved, Stippled, StippledWithin}
@@ -33,13 +32,6 @@ unfolding row_of
 copied-from false mix other l r at from n h k e = e ∙ sym (copied-row mix n l at other from h k)
 copied-from true mix other l r at from n h k e =
     e ∙ sym (copied-row mix n l at other from h k) ∙ sym (copy-turned (mixed mix) n l at other from)
-
--- a mix of which every new byte is the source byte
-abbrev pub straight : Mix
-straight = record { selectors = record { both = 0; old = 0; source = 255; none = 0 }; keyed = false; key = 0 }
-
-pub straight-plain : Plain (mixed straight)
-straight-plain = mixed-plain straight refl refl refl refl refl
 
 pub moved-right : (back : Bool) (mix : Mix) (l r : List ℕ) (at from n : ℕ) → back ≡ false → at + n ≤ length l → from + n ≤ length l
     → r ≡ moved_row mix n l at from → (other : List ℕ) → r ≡ row_of (Moved mix) back other at from n l
@@ -91,13 +83,27 @@ same-source-row (Moved mix) back other at x y n l h = ap (λ x. row_of (Moved mi
 same-source-row (Stippled s) back other at x y n l h = ap (λ x. row_of (Stippled s) back other at x n l) (h refl)
 same-source-row (StippledWithin s) back other at x y n l h = ap (λ x. row_of (StippledWithin s) back other at x n l) (h refl)
 
--- what the rows of a paint need, by the paint that it is
-module _ {p q : Paint} {up : Bool} {width stride at from n rows other own : ℕ} (is : p ≡ q) (f : PaintFits p up width stride at from n rows other own) where
-  pub stride-is : stride ≡ source_pixels q width
-  stride-is = f.apart ∙ ap (λ p. source_pixels p width) is
+-- one pen draws the same in either direction, from whatever source; and so do the others where their source is told
+pub solid-same : (back : Bool) (pen : Pen) (other : List ℕ) (at from n : ℕ) (l : List ℕ)
+    → row_of (Solid pen) false [] at 0 n l ≡ row_of (Solid pen) back other at from n l
+unfolding row_of
+solid-same false pen other at from n l = refl
+solid-same true pen other at from n l = sym (fill-turned pen n l at)
 
-  pub source-own : reads q ≡ true → RowsFit up stride from n rows (source_pixels q own)
-  source-own r = subst (λ p. RowsFit up stride from n rows (source_pixels p own)) is (f.source (ap reads is ∙ r))
+pub copied-same : (back : Bool) (mix : Mix) (other : List ℕ) (at from n : ℕ) (l : List ℕ)
+    → row_of (Copied mix) false other at from n l ≡ row_of (Copied mix) back other at from n l
+unfolding row_of
+copied-same false mix other at from n l = refl
+copied-same true mix other at from n l = sym (copy-turned (mixed mix) n l at other from)
 
-  pub source-other : reads q ≡ true → RowsFit up stride from n rows (source_pixels q other)
-  source-other r = rw f.same (source-own r)
+pub moved-same : (back : Bool) (mix : Mix) (other : List ℕ) (at from n : ℕ) (l : List ℕ)
+    → row_of (Moved mix) back [] at from n l ≡ row_of (Moved mix) back other at from n l
+unfolding row_of
+moved-same false mix other at from n l = refl
+moved-same true mix other at from n l = refl
+
+pub within-same : (back : Bool) (s : Stipple) (other : List ℕ) (at from n : ℕ) (l : List ℕ)
+    → row_of (StippledWithin s) back [] at from n l ≡ row_of (StippledWithin s) back other at from n l
+unfolding row_of
+within-same false s other at from n l = refl
+within-same true s other at from n l = refl

@@ -1,9 +1,9 @@
 -- Visits that are drawn at once, as boxes.
 -- Assumes nothing.
 use mathlib.Core.Path.{◌≡◌, ap, sym, ◌∙◌}
-use mathlib.Core.Bool.{true, false, false≢true}
+use mathlib.Core.Bool.{true, false}
 use mathlib.Core.List.{List}
-use Prim.Native.Nat.{ℕ, ◌+◌, ◌-◌, ◌*◌, ◌<◌}
+use Prim.Native.Nat.{ℕ, ◌+◌, ◌-◌, ◌*◌, ◌/◌, ◌%◌, ◌<◌}
 use native.Mathlib.Nat.{mul-add}
 use native.Mathlib.Omega.{arith}
 use lib.ListN.{length}
@@ -11,21 +11,18 @@ use Rattle.lemmas.specs.Turns.{in_turn}
 use Rattle.lemmas.proofs.Turns.{turn_agree, turn-rows}
 use Rattle.geometry.specs.Coordinates.{point_of}
 use Rattle.geometry.specs.Blit.{width_of, height_of, blit_count, bottom_to_top, right_to_left}
-use Rattle.raster.specs.declared.Pen.{Pen}
 use Rattle.blits.specs.Blits.{reads, source_width, visited, Fitting}
-use Rattle.blits.specs.Ranges.{window_ranges, visible_range, visible_columns, visible_rows, visible_of, part_of}
-use Rattle.blits.specs.Rows.{box_of, BoxFits}
-use Rattle.blits.specs.Tiled.{BoxInside}
+use Rattle.blits.specs.Ranges.{window_ranges, visible_range, visible_columns, visible_rows, visible_of, part_of, Shown}
+use Rattle.blits.specs.Rows.{box_of, blit_box, BoxFits, BoxInside, BoxShown}
 use Rattle.blits.specs.declared.Blit.{Blit}
-use Rattle.blits.specs.declared.Paint.TheVariants.{Solid}
-use Rattle.blits.specs.declared.ranges.Range.{Range}
-use Rattle.blits.specs.declared.ranges.Visible.{Visible}
+use Rattle.geometry.specs.declared.visible.Range.{Range}
+use Rattle.geometry.specs.declared.visible.Part.{Part}
 use Rattle.blits.proofs.Loops.{PartFits, whole_part}
 use Rattle.blits.proofs.Drawn.{past-most}
 use Rattle.blits.proofs.Rooms.{RowFits, z-small}
 use Rattle.blits.proofs.Boxes.{box-fits, box-inside, box-visits}
 
-module _ (b : Blit) (other : List ℕ) {row rows c m own : ℕ} (f : PartFits b row rows c m (length other) own) {visible : Visible}
+module _ (b : Blit) (other : List ℕ) {row rows c m own : ℕ} (f : PartFits b row rows c m (length other) own) {visible : Part}
     (same : visible ≡ visible_of b) {across down : Range} (of-columns : across ≡ part_of visible.columns c m)
     (of-rows : down ≡ part_of visible.rows row rows) where
   part-columns : across ≡ part_of (visible_columns b) c m
@@ -51,6 +48,9 @@ module _ (b : Blit) (other : List ℕ) {row rows c m own : ℕ} (f : PartFits b 
 
   pub part-inside : reads b.paint ≡ true → BoxInside (source_width b) b.height b.from b.direction across down
   part-inside = box-inside b other row rows c m own f.each across down part-columns part-lines
+
+  pub part-shown : b.width < 4294967296 → BoxShown b across down (length other) own
+  part-shown wide = record { fits = part-fits wide; inside = part-inside }
 
   pub part-visits : (l k : List ℕ) → k ≡ box_of b.paint b.width b.to b.from b.direction across down other l
       → k ≡ in_turn (λ i. visited b other (width_of b.size * row + c + i)) (m * rows) l
@@ -87,32 +87,18 @@ window-alone b e =
     ap (λ r. visible_range r (bottom_to_top b.direction) to.y b.window.top b.window.bottom from.y b.height) (sym e) in
     λ i. record { columns = columns i; rows = rows i }
 
--- a whole blit with one pen, whatever the other buffer is
-module _ (b : Blit) (pen : Pen) (l : List ℕ) (is : b.paint ≡ Solid pen) (some : 0 < blit_count b.size) (small : b.size < 4294967296)
-    (f : Fitting b 0 (blit_count b.size) (length l) (length l)) {shown : Visible}
-    (same : shown ≡ window_ranges b.window b.to b.direction)
-    {across down : Range} (of-columns : across ≡ part_of shown.columns 0 (width_of b.size))
-    (of-rows : down ≡ part_of shown.rows 0 (height_of b.size)) where
-  shown-all : shown ≡ visible_of b
-  shown-all = same ∙ window-alone b (ap reads is)
+-- a whole blit, as one part
+module _ (b : Blit) (other l : List ℕ) {shown : Part} {size : ℕ} (s : Shown b shown size) (small : size < 4294967296) (some : 0 < blit_count size)
+    (f : Fitting b 0 (blit_count size) (length other) (length l)) {across down : Range} (of-columns : across ≡ part_of shown.columns 0 (size / 65536))
+    (of-rows : down ≡ part_of shown.rows 0 (size % 65536)) where
+  all-part : PartFits b 0 (height_of b.size) 0 (width_of b.size) (length other) (length l)
+  all-part =
+      whole_part b 0 (blit_count b.size) (length other) (length l) (rw s.sized at some) (rw s.sized at small) (rw s.sized at f)
 
-  pub filled-fits : b.width < 4294967296 → BoxFits (Solid pen) b.width b.to b.to b.direction across down (length l) (length l)
-  filled-fits wide =
-      let box = part-fits b l (whole_part b 0 (blit_count b.size) (length l) (length l) some small f) shown-all of-columns of-rows wide in
-      record {
-        across-small = box.across-small;
-        down-small = box.down-small;
-        same = box.same;
-        target = box.target;
-        source = λ t. absurd (false≢true t);
-      }
+  pub whole-shown : BoxShown b across down (length other) (length l)
+  whole-shown = part-shown b other all-part s.visible (rw s.sized at of-columns) (rw s.sized at of-rows) s.narrow
 
-  pub filled-visits : (other k : List ℕ) → length other ≡ length l
-      → k ≡ box_of (Solid pen) b.width b.to b.from b.direction across down other l → k ≡ in_turn (visited b other)
-      (blit_count b.size) l
-  filled-visits other k long e =
-      let g : Fitting b 0 (blit_count b.size) (length other) (length l) =
-      record { own-area = f.own-area; other-area = long ∙ f.own-area; inside = f.inside; visits = f.visits } in
-      whole-visits b other l k
-      (part-visits b other (whole_part b 0 (blit_count b.size) (length other) (length l) some small g) shown-all of-columns of-rows l k
-      (e ∙ ap (λ p. box_of p b.width b.to b.from b.direction across down other l) (sym is)))
+  pub whole-drawn : (k : List ℕ) → k ≡ blit_box b across down other l → k ≡ in_turn (visited b other) (blit_count size) l
+  whole-drawn k e =
+      rw s.sized
+      (whole-visits b other l k (part-visits b other all-part s.visible (rw s.sized at of-columns) (rw s.sized at of-rows) l k e))

@@ -10,6 +10,8 @@ use borrow.Author.Tests.{ltb-true, ltb-false, lt-ltb}
 use lib.Bits.{bit_xor, differ, xor_zero_r, xor_lt}
 use lib.Dec.{eqb, ltb, lit<}
 use lib.ListN.{get_or}
+use Rattle.std.specs.Int.{to_le_bytes}
+use Rattle.std.proofs.Common.{w64}
 use lib.Pow.{pow_pos, pow_mono, shl_exact, shr-shr, field, mod-mod-pow}
 use Rattle.lemmas.proofs.Booleans.{by_cases}
 use Rattle.raster.specs.Raster.{bit}
@@ -17,7 +19,6 @@ use Rattle.raster.proofs.Bits.{bit-ind, bit-low, bit-xor, same_bits}
 use Rattle.stipples.specs.Stipples.{bit_in, bit_at}
 use Rattle.stipples.specs.Words.{byte_in}
 use Rattle.stipples.proofs.Bytes.{byte-xor}
-use Rattle.blits.specs.Bits.{word_of}
 
 shifted-bit : (n i x : ℕ) → bit i (x / 2 ^ n) ≡ bit (n + i) x
 shifted-bit n i x = ap (λ y. y % 2) (shr-shr x n i)
@@ -55,9 +56,6 @@ module _ (l : List ℕ) (byte first j : ℕ) where
   bit-as : (i k : ℕ) → (8 * byte + first + j) / 8 ≡ i → (8 * byte + first + j) % 8 ≡ k → bit_in k (get_or l i 0) ≡ bit_at l (8 * byte + first + j)
   bit-as i k p q = ap₂ (λ i k. bit_in k (get_or l i 0)) (sym p) (sym q)
 
-  pub bit-first : first ≡ 0 → j < 8 → bit_in j (get_or l byte 0) ≡ bit_at l (8 * byte + first + j)
-  bit-first e h = bit-as byte j (omega arith) (omega arith)
-
   bit-here : first + j < 8 → bit_in (first + j) (get_or l byte 0) ≡ bit_at l (8 * byte + first + j)
   bit-here h = bit-as byte (first + j) (omega arith) (omega arith)
 
@@ -76,36 +74,17 @@ module _ (l : List ℕ) (byte first j : ℕ) where
       (λ u. here-bit t (get_or l (byte + 1) 0) e (ltb-true (first + j) 8 u))
       (λ u. e ∙ rw u (bit-next (ltb-false (first + j) 8 u) g))
 
--- the bytes of a word that is put together of eight
-module _ (a b c d e f g h : ℕ) (ha : a < 256) (hb : b < 256) (hc : c < 256) (hd : d < 256) (he : e < 256) (hf : f < 256) (hg : g < 256)
-    (hh : h < 256) where
-  abbrev word : ℕ
-  word = word_of a b c d e f g h
-
-  pub bytes_of : (l : List ℕ) (at : ℕ) → a ≡ get_or l at 0 → b ≡ get_or l (at + 1) 0 → c ≡ get_or l (at + 2) 0 → d ≡ get_or l (at + 3) 0
-      → e ≡ get_or l (at + 4) 0 → f ≡ get_or l (at + 5) 0 → g ≡ get_or l (at + 6) 0 → h ≡ get_or l (at + 7) 0 → (k : ℕ) → k < 8
-      → byte_in k word ≡ get_or l (at + k) 0
-  bytes_of l at e0 e1 e2 e3 e4 e5 e6 e7 zero p =
-      let q : byte_in 0 word ≡ a = omega arith in
-      let i : at ≡ at + 0 = omega arith in
-      q ∙ e0 ∙ ap (λ i. get_or l i 0) i
-  bytes_of l at e0 e1 e2 e3 e4 e5 e6 e7 (suc zero) p = let q : byte_in 1 word ≡ b = omega arith in q ∙ e1
-  bytes_of l at e0 e1 e2 e3 e4 e5 e6 e7 (suc (suc zero)) p = let q : byte_in 2 word ≡ c = omega arith in q ∙ e2
-  bytes_of l at e0 e1 e2 e3 e4 e5 e6 e7 (suc (suc (suc zero))) p = let q : byte_in 3 word ≡ d = omega arith in q ∙ e3
-  bytes_of l at e0 e1 e2 e3 e4 e5 e6 e7 (suc (suc (suc (suc zero)))) p = let q : byte_in 4 word ≡ e = omega arith in q ∙ e4
-  bytes_of l at e0 e1 e2 e3 e4 e5 e6 e7 (suc (suc (suc (suc (suc zero))))) p = let q : byte_in 5 word ≡ f = omega arith in q ∙ e5
-  bytes_of l at e0 e1 e2 e3 e4 e5 e6 e7 (suc (suc (suc (suc (suc (suc zero)))))) p = let q : byte_in 6 word ≡ g = omega arith in q ∙ e6
-  bytes_of l at e0 e1 e2 e3 e4 e5 e6 e7 (suc (suc (suc (suc (suc (suc (suc zero))))))) p = let q : byte_in 7 word ≡ h = omega arith in q ∙ e7
-  bytes_of l at e0 e1 e2 e3 e4 e5 e6 e7 (suc (suc (suc (suc (suc (suc (suc (suc k)))))))) p = absurd (omega arith)
-
 -- the bytes of a word one after the other
-pub first_byte : (word : ℕ) → word ≡ word / 2 ^ (8 * 0)
-first_byte word = omega arith
-
-pub next-byte : (word k : ℕ) → word / 2 ^ (8 * k) / 256 ≡ word / 2 ^ (8 * (k + 1))
-next-byte word k =
-    let e : 8 * k + 8 ≡ 8 * (k + 1) = omega arith in
-    shr-shr word (8 * k) 8 ∙ ap (λ n. word / 2 ^ n) e
+pub le-byte : (word k : ℕ) → k < 8 → get_or (to_le_bytes w64 word) k 0 ≡ byte_in k word
+le-byte word zero h = omega arith
+le-byte word (suc zero) h = omega arith
+le-byte word (suc (suc zero)) h = omega arith
+le-byte word (suc (suc (suc zero))) h = omega arith
+le-byte word (suc (suc (suc (suc zero)))) h = omega arith
+le-byte word (suc (suc (suc (suc (suc zero))))) h = omega arith
+le-byte word (suc (suc (suc (suc (suc (suc zero)))))) h = omega arith
+le-byte word (suc (suc (suc (suc (suc (suc (suc zero))))))) h = omega arith
+le-byte word (suc (suc (suc (suc (suc (suc (suc (suc k)))))))) h = absurd (omega arith)
 
 -- the first number with more than m bytes
 pub shifted_one : (m : ℕ) → m < 8 → (1 * 2 ^ (8 * m)) % 2 ^ 64 ≡ 2 ^ (8 * m)

@@ -5,18 +5,6 @@ use Rattle.stipples.specs.Stipples.{bit_in, bit_at, stippled}
 use Rattle.stipples.specs.declared.Stipple.{Stipple}
 use Rattle.stipples.specs.declared.Inks.{Inks}
 
--- Eight bytes as one word, the first lowest.
-abbrev pub word_of : ℕ → ℕ → ℕ → ℕ → ℕ → ℕ → ℕ → ℕ → ℕ
-word_of a b c d e f g h =
-    a
-    + b * 0x100
-    + c * 0x1_0000
-    + d * 0x100_0000
-    + e * 0x1_0000_0000
-    + f * 0x100_0000_0000
-    + g * 0x1_0000_0000_0000
-    + h * 0x100_0000_0000_0000
-
 -- No byte is kept.
 abbrev pub Plain : Inks → Type 0
 Plain q = (q.keep ≡ 0) × (q.keep_change ≡ 0)
@@ -45,3 +33,15 @@ pub record BitsFit (byte first n other : ℕ) : Type 0 where
 -- No pixel of a row is a byte that its bits lie in.
 abbrev pub Apart : ℕ → ℕ → ℕ → Type 0
 Apart at byte n = (at + n ≤ byte) ⊎ (byte + n / 8 + 2 ≤ at)
+
+-- The bits of a row stay as they are while it is drawn; `bytes` is what they lie in.
+abbrev pub BitsStay : (List ℕ → List ℕ) → ℕ → ℕ → ℕ → ℕ → Type 0
+BitsStay bytes at byte first n =
+    (s : Stipple) (l : List ℕ) (k i : ℕ) → k ≤ n → i < n
+    → bit_at (bytes (expanded s k l at (bytes l) (8 * byte + first))) (8 * byte + first + i) ≡ bit_at (bytes l) (8 * byte + first + i)
+
+-- What n bits of a row need of the bytes that they lie in, of which there are so many.
+pub record RowBits (bytes : List ℕ → List ℕ) (at byte first n size : ℕ) : Type 0 where
+  pub fit : BitsFit byte first n size
+  pub few : size < 18446744073709551616
+  pub stay : BitsStay bytes at byte first n

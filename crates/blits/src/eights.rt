@@ -3,7 +3,7 @@ ghost use Rattle.std.specs.Prelude.{◌≡◌, true, cond, ℕ, ◌+◌, ◌-◌
 ghost use Rattle.lemmas.specs.Sweeps.{sweep};
 ghost use Rattle.stipples.specs.Stipples.{bit_in, bit_at};
 ghost use Rattle.stipples.specs.Words.{byte_in, inks_of};
-ghost use Rattle.blits.specs.Bits.{word_of, Plain, by_byte, BitsFit};
+ghost use Rattle.blits.specs.Bits.{Plain, by_byte, BitsFit};
 
 use stipples::{Inks, Stipple};
 
@@ -29,26 +29,12 @@ pub(crate) fn bits_at(source: &[u8], byte: usize, first: usize, m: usize) -> u8
     joined(source[byte], source[byte + 1], first)
 }
 
-// Eight bytes as one word, the first lowest.
-fn word_of(a: u8, b: u8, c: u8, d: u8, e: u8, f: u8, g: u8, h: u8) -> u64
-    ensures { result ≡ word_of a b c d e f g h }
-{
-    a as u64
-        + b as u64 * 0x100
-        + c as u64 * 0x1_0000
-        + d as u64 * 0x100_0000
-        + e as u64 * 0x1_0000_0000
-        + f as u64 * 0x100_0000_0000
-        + g as u64 * 0x1_0000_0000_0000
-        + h as u64 * 0x100_0000_0000_0000
-}
-
-// The eight bytes from `at` on: one load.
+// The eight bytes from `at` on as a word, the first lowest: one load.
 fn word_at(buffer: &[u8], at: usize) -> u64
     requires { at + 8 ≤ length buffer.now }
     ensures { (k : ℕ) → k < 8 → byte_in k result ≡ get_or buffer.now (at + k) 0 }
 {
-    word_of(
+    u64::from_le_bytes([
         buffer[at],
         buffer[at + 1],
         buffer[at + 2],
@@ -57,7 +43,7 @@ fn word_at(buffer: &[u8], at: usize) -> u64
         buffer[at + 5],
         buffer[at + 6],
         buffer[at + 7],
-    )
+    ])
 }
 
 // The same bytes from a word: one store.
@@ -65,12 +51,9 @@ fn put_word(buffer: &mut [u8], at: usize, word: u64)
     requires { at + 8 ≤ length buffer.old }
     ensures { buffer.new ≡ sweep (λ k. at + k) (λ k m. byte_in k word) 8 buffer.old }
 {
-    let mut rest = word;
-    let mut k: usize = 0;
-    while k < 8 {
-        buffer[at + k] = (rest % 256) as u8;
-        rest = rest / 256;
-        k += 1;
+    let bytes = word.to_le_bytes();
+    for k in 0..8 {
+        buffer[at + k] = bytes[k];
     }
 }
 
@@ -79,60 +62,67 @@ pub(crate) fn draw_bits(buffer: &mut [u8], at: usize, bits: u8, m: usize, s: Sti
     requires { (m ≤ 8) × (at + m ≤ length buffer.old) }
     ensures { buffer.new ≡ by_byte s m buffer.old at bits }
 {
-    let mut k: usize = 0;
-    while k < m {
+    for k in 0..m {
         buffer[at + k] = s.draw((bits as usize >> (7 - k)) % 2 == 1, buffer[at + k]);
-        k += 1;
     }
 }
 
-// Eight pixels by the bits of a byte.
-pub(crate) fn draw_eight(buffer: &mut [u8], at: usize, bits: u8, s: Stipple, inks: Inks)
-    requires { (inks ≡ inks_of s) × (at + 8 ≤ length buffer.old) }
-    ensures { buffer.new ≡ by_byte s 8 buffer.old at bits }
-{
-    let old = word_at(buffer, at);
-    put_word(buffer, at, inks.draw(bits, old));
+// What a blit by bits draws with, worked out once for all of its rows; `plain` only where no old byte counts.
+#[derive(Clone, Copy)]
+pub struct Inked {
+    pub stipple: Stipple,
+    pub inks: Inks,
+    pub plain: bool,
+    pub ghost made: { inks ≡ inks_of stipple },
+    pub ghost unread: { plain ≡ true → Plain inks },
 }
 
-// The same for the pixels of a glyph, where one word is drawn and not a row of them.
-pub(crate) fn draw_glyph_byte(buffer: &mut [u8], at: usize, bits: u8, s: Stipple, inks: Inks)
-    requires { (inks ≡ inks_of s) × (at + 8 ≤ length buffer.old) }
-    ensures { buffer.new ≡ by_byte s 8 buffer.old at bits }
-{
-    let old = word_at(buffer, at);
-    put_word(buffer, at, inks.draw_by_products(bits, old));
-}
-
-// Eight pixels in a row of words; `plain` only where no byte is kept, so that none is read.
-pub(crate) fn draw_block(
-    plain: bool,
-    buffer: &mut [u8],
-    at: usize,
-    bits: u8,
-    s: Stipple,
-    inks: Inks,
-)
-    requires { (inks ≡ inks_of s) × (plain ≡ true → Plain inks) × (at + 8 ≤ length buffer.old) }
-    ensures { buffer.new ≡ by_byte s 8 buffer.old at bits }
-{
-    if plain {
-        put_word(buffer, at, inks.draw(bits, 0));
-        return;
+impl Inked {
+    pub(crate) fn new(stipple: Stipple) -> Inked
+        ensures { result.stipple ≡ stipple }
+    {
+        let inks = stipple.inks();
+        let plain = (inks.keep == 0) & (inks.keep_change == 0);
+        Inked {
+            stipple,
+            inks,
+            plain,
+        }
     }
-    draw_eight(buffer, at, bits, s, inks);
-}
 
-// Fewer pixels, as eight of which the rest keep their bytes; one by one at the buffer's end.
-pub(crate) fn draw_some(buffer: &mut [u8], at: usize, bits: u8, m: usize, s: Stipple, inks: Inks)
-    requires { (inks ≡ inks_of s) × (m < 8) × (at + m ≤ length buffer.old) }
-    ensures { buffer.new ≡ by_byte s m buffer.old at bits }
-{
-    if buffer.len() - at < 8 {
-        draw_bits(buffer, at, bits, m, s);
-        return;
+    // Eight pixels in a row of words, by the bits of a byte; PLAIN only where no old byte counts, so that none is read.
+    pub(crate) fn draw_eight<const PLAIN: bool>(self, buffer: &mut [u8], at: usize, bits: u8)
+        requires { (PLAIN ≡ true → Plain self.inks) × (at + 8 ≤ length buffer.old) }
+        ensures { buffer.new ≡ by_byte self.stipple 8 buffer.old at bits }
+    {
+        if PLAIN {
+            put_word(buffer, at, self.inks.draw(bits, 0));
+            return;
+        }
+        let old = word_at(buffer, at);
+        put_word(buffer, at, self.inks.draw(bits, old));
     }
-    let old = word_at(buffer, at);
-    let new = inks.draw(bits, old);
-    put_word(buffer, at, old ^ ((old ^ new) % (1 << (8 * m))));
+
+    // The same for the pixels of a glyph, where one word is drawn and not a row of them.
+    pub(crate) fn draw_glyph_byte(self, buffer: &mut [u8], at: usize, bits: u8)
+        requires { at + 8 ≤ length buffer.old }
+        ensures { buffer.new ≡ by_byte self.stipple 8 buffer.old at bits }
+    {
+        let old = word_at(buffer, at);
+        put_word(buffer, at, self.inks.draw_by_products(bits, old));
+    }
+
+    // Fewer pixels, as eight of which the rest keep their bytes; one by one at the buffer's end.
+    pub(crate) fn draw_some(self, buffer: &mut [u8], at: usize, bits: u8, m: usize)
+        requires { (m < 8) × (at + m ≤ length buffer.old) }
+        ensures { buffer.new ≡ by_byte self.stipple m buffer.old at bits }
+    {
+        if buffer.len() - at < 8 {
+            draw_bits(buffer, at, bits, m, self.stipple);
+            return;
+        }
+        let old = word_at(buffer, at);
+        let new = self.inks.draw(bits, old);
+        put_word(buffer, at, old ^ ((old ^ new) % (1 << (8 * m))));
+    }
 }

@@ -1,29 +1,24 @@
-// Many pixels of a blit at once, row by row (document 01, Pixels): which of them are visible (ranges.rt), where they lie
-// (places.rt), and the loops over rows (row_loops.rt). Where the source is bits: its loops (bit_loops.rt), one row (bits.rt),
-// and the pixels of one byte (eights.rt). Where it is a tile: tiled.rt.
+// Many pixels of a blit at once, row by row (document 01, Pixels): which of them are visible (ranges.rt), in parts of columns and rows
+// (parts.rt), where these lie (places.rt), and the loop over rows (row_loops.rt). Where the source is bits: its rows (bit_loops.rt), one
+// of them (bits.rt), and the pixels of one byte (eights.rt). Where it is a tile: tiled.rt.
 
 #![tactic(auto)]
 
 mod bit_loops;
 mod bits;
 mod eights;
+mod parts;
 mod places;
 mod ranges;
 mod row_loops;
 mod tiled;
 
-ghost use Rattle.std.specs.Prelude.{◌≡◌, List, ℕ, ◌+◌, ◌-◌, ◌<◌, min, length};
-ghost use Rattle.geometry.specs.Blit.{blit_count};
-ghost use Rattle.lemmas.specs.Turns.{in_turn};
-ghost use Rattle.blits.specs.Blits.{visited, window_inside, blit_fits, blitted, Fitting, AtOnce};
-ghost use Rattle.blits.specs.declared.Paint.TheVariants.{Solid};
-ghost use Rattle.blits.specs.Rows.{box_of, BoxFits};
+ghost use Rattle.std.specs.Prelude.{◌≡◌, ◌-◌};
+ghost use Rattle.blits.specs.Blits.{window_inside, blit_fits, blitted};
 
-use crate::places::{place_at, source_width};
-use crate::ranges::{Range, part, visible_of, window_ranges};
-use crate::row_loops::{fill_rows, paint_rows};
+use crate::parts::{Filled, Painted, draw_visits, draw_whole};
+use crate::ranges::{visible_of, window_ranges};
 use geometry::{ORIGIN, Window, blit_count};
-use numbers::{min, saturating_sub};
 use raster::Pen;
 use rows::Mix;
 use stipples::Stipple;
@@ -50,159 +45,8 @@ pub struct Blit {
     pub from: u32,
     pub to: u32,
     pub size: u32,
+    // Kept: XY3's word, here and below, as the other registers' words: `draw_blit` draws by every word (`blitted`).
     pub direction: u32,
-}
-
-// The columns `across` of the rows `down` of a blit from corner to corner.
-fn paint_box(
-    paint: Paint,
-    width: u32,
-    to: u32,
-    from: u32,
-    direction: u32,
-    across: Range,
-    down: Range,
-    buffer: &mut [u8],
-    other: &[u8],
-)
-    requires { BoxFits paint width to from direction across down (length other.now) (length buffer.old) }
-    ensures { buffer.new ≡ box_of paint width to from direction across down other.now buffer.old }
-{
-    let a = across.from;
-    let z = across.past;
-    let top = down.from;
-    let bottom = down.past;
-    if z <= a {
-        return;
-    }
-    if bottom <= top {
-        return;
-    }
-    let stride = source_width(paint, width);
-    let target = place_at(to, width as usize, direction, a, z, top);
-    let source = place_at(from, stride, direction, a, z, top);
-    paint_rows(
-        paint,
-        direction / 2 % 2 == 1,
-        direction % 2 == 1,
-        width as usize,
-        stride,
-        buffer,
-        target,
-        other,
-        source,
-        z - a,
-        bottom - top,
-    );
-}
-
-// The same with one pen.
-fn fill_box(
-    pen: Pen,
-    width: u32,
-    to: u32,
-    direction: u32,
-    across: Range,
-    down: Range,
-    buffer: &mut [u8],
-)
-    requires { BoxFits (Solid pen) width to to direction across down (length buffer.old) (length buffer.old) }
-    ensures { (from : ℕ) (other : List ℕ) → buffer.new ≡ box_of (Solid pen) width to from direction across down other buffer.old }
-{
-    let a = across.from;
-    let z = across.past;
-    let top = down.from;
-    let bottom = down.past;
-    if z <= a {
-        return;
-    }
-    if bottom <= top {
-        return;
-    }
-    let up = direction % 2 == 1;
-    let at = place_at(to, width as usize, direction, a, z, top);
-    fill_rows(up, width as usize, buffer, at, z - a, bottom - top, pen);
-}
-
-// A whole blit with one pen.
-fn fill_whole(b: Blit, pen: Pen, buffer: &mut [u8])
-    requires { (b.paint ≡ Solid pen) × (0 < blit_count b.size) × Fitting b 0 (blit_count b.size) (length buffer.old) (length buffer.old) }
-    ensures { (other : List ℕ) → length other ≡ length buffer.old → buffer.new ≡ in_turn (visited b other) (blit_count b.size) buffer.old }
-{
-    let shown = window_ranges(b.window, b.to, b.direction);
-    let columns = part(shown.columns, 0, (b.size / 65536) as usize);
-    let lines = part(shown.rows, 0, (b.size % 65536) as usize);
-    fill_box(pen, b.width, b.to, b.direction, columns, lines, buffer);
-}
-
-// A whole blit. One pen is most common, and needs no source: so it is chosen first.
-fn draw_whole(b: Blit, buffer: &mut [u8], other: &[u8])
-    requires { (0 < blit_count b.size) × Fitting b 0 (blit_count b.size) (length other.now) (length buffer.old) }
-    ensures { buffer.new ≡ in_turn (visited b other.now) (blit_count b.size) buffer.old }
-{
-    let paint = b.paint;
-    if let Paint::Solid(pen) = paint {
-        fill_whole(b, pen, buffer);
-        return;
-    }
-    let visible = visible_of(b);
-    let columns = part(visible.columns, 0, (b.size / 65536) as usize);
-    let lines = part(visible.rows, 0, (b.size % 65536) as usize);
-    paint_box(
-        paint,
-        b.width,
-        b.to,
-        b.from,
-        b.direction,
-        columns,
-        lines,
-        buffer,
-        other,
-    );
-}
-
-// In how many rows the next m visits of a row are drawn at once, of `left` visits: in whole rows, or in one.
-pub(crate) fn rows_at_once(across: usize, m: usize, left: usize) -> usize
-    requires { 0 < across }
-    ensures { (column : ℕ) → column < across → m ≡ min left (across - column) → AtOnce across column m left result }
-{
-    if m < across {
-        return 1;
-    }
-    left / across
-}
-
-// n visits from visit `first` on: what is left of a row, whole rows, and the start of a row.
-fn draw_visits(b: Blit, first: usize, n: usize, buffer: &mut [u8], other: &[u8])
-    requires { (0 < n) × Fitting b first n (length other.now) (length buffer.old) }
-    ensures { buffer.new ≡ in_turn (λ i. visited b other.now (first + i)) n buffer.old }
-{
-    let visible = visible_of(b);
-    let paint = b.paint;
-    let across = (b.size / 65536) as usize;
-    let mut row = first / across;
-    let mut column = first % across;
-    let mut k: usize = 0;
-    while first + k < first + n {
-        let m = min(n - k, across - column);
-        let rows = rows_at_once(across, m, n - k);
-        let columns = part(visible.columns, column, m);
-        let lines = part(visible.rows, row, rows);
-        paint_box(
-            paint,
-            b.width,
-            b.to,
-            b.from,
-            b.direction,
-            columns,
-            lines,
-            buffer,
-            other,
-        );
-        k += m * rows;
-        row += rows;
-        column = 0;
-    }
 }
 
 // Whether both buffers have the blit's size, with the window inside, and the blit so many visits.
@@ -215,7 +59,7 @@ fn blit_fits(b: Blit, first: usize, n: usize, other: usize, own: usize) -> bool
     (own == area)
         & (other == area)
         & window_inside(b.width, b.height, w)
-        & ((n <= count) & (first <= saturating_sub(count, n)))
+        & ((n <= count) & (first <= count.saturating_sub(n)))
 }
 
 fn window_inside(width: u32, height: u32, w: Window) -> bool
@@ -227,7 +71,8 @@ fn window_inside(width: u32, height: u32, w: Window) -> bool
         & (w.bottom <= ORIGIN + height as usize)
 }
 
-// n visits of a blit from visit `first` on, on `buffer`; `other` is the buffer that is not drawn on.
+// n visits of a blit from visit `first` on, on `buffer`; `other` is the buffer that is not drawn on. A whole blit with one pen is most
+// common, and needs no source: so it is chosen first.
 pub fn draw_blit(b: Blit, first: usize, n: usize, buffer: &mut [u8], other: &[u8])
     ensures { buffer.new ≡ blitted b first n other.now buffer.old }
 {
@@ -237,9 +82,15 @@ pub fn draw_blit(b: Blit, first: usize, n: usize, buffer: &mut [u8], other: &[u8
     if n == 0 {
         return;
     }
+    let painted = Painted { blit: b, other };
     if n == blit_count(b.size) {
-        draw_whole(b, buffer, other);
+        if let Paint::Solid(pen) = b.paint {
+            let shown = window_ranges(b.window, b.to, b.direction);
+            draw_whole(Filled { painted, pen }, shown, b.size, buffer);
+            return;
+        }
+        draw_whole(painted, visible_of(b), b.size, buffer);
         return;
     }
-    draw_visits(b, first, n, buffer, other);
+    draw_visits(painted, visible_of(b), b.size, first, n, buffer);
 }

@@ -5,22 +5,7 @@ ghost use Rattle.blits.specs.Ranges.{range_of, window_ranges, visible_range, vis
 
 use crate::places::source_width;
 use crate::{Blit, Paint};
-use geometry::{ORIGIN, Window, point_of};
-use numbers::{max, min, saturating_sub};
-
-// Columns or rows from <= j < past.
-#[derive(Clone, Copy)]
-pub struct Range {
-    pub from: usize,
-    pub past: usize,
-}
-
-// The columns and the rows of a blit that are visible.
-#[derive(Clone, Copy)]
-pub struct Visible {
-    pub columns: Range,
-    pub rows: Range,
-}
+use geometry::{ORIGIN, Part, Range, Window, point_of};
 
 // The j whose pixel, j from c on or back, is at lo <= x < hi.
 pub(crate) fn range_of(back: bool, c: usize, lo: usize, hi: usize) -> Range
@@ -29,13 +14,13 @@ pub(crate) fn range_of(back: bool, c: usize, lo: usize, hi: usize) -> Range
 {
     if back {
         return Range {
-            from: saturating_sub(c + 1, hi),
-            past: saturating_sub(c + 1, lo),
+            from: (c + 1).saturating_sub(hi),
+            past: (c + 1).saturating_sub(lo),
         };
     }
     Range {
-        from: saturating_sub(lo, c),
-        past: saturating_sub(hi, c),
+        from: lo.saturating_sub(c),
+        past: hi.saturating_sub(c),
     }
 }
 
@@ -67,8 +52,8 @@ fn visible_range(
 {
     let target = range_of(back, t, lo, hi);
     let source = range_of(back, s, ORIGIN, ORIGIN + size);
-    let from = max(target.from, source.from);
-    let past = min(target.past, source.past);
+    let from = target.from.max(source.from);
+    let past = target.past.min(source.past);
     if reads {
         return Range { from, past };
     }
@@ -76,18 +61,18 @@ fn visible_range(
 }
 
 // The columns and rows in the window.
-pub(crate) fn window_ranges(w: Window, to: u32, direction: u32) -> Visible
+pub(crate) fn window_ranges(w: Window, to: u32, direction: u32) -> Part
     ensures { result ≡ window_ranges w to direction }
 {
     let target = point_of(to);
-    Visible {
+    Part {
         columns: range_of(direction / 2 % 2 == 1, target.x, w.left, w.right),
         rows: range_of(direction % 2 == 1, target.y, w.top, w.bottom),
     }
 }
 
 // The visible columns and rows.
-pub(crate) fn visible_of(b: Blit) -> Visible
+pub(crate) fn visible_of(b: Blit) -> Part
     ensures { result ≡ visible_of b }
 {
     let w = b.window;
@@ -101,16 +86,16 @@ pub(crate) fn visible_of(b: Blit) -> Visible
     let down = b.height as usize;
     let columns = visible_range(reads, back, target.x, w.left, w.right, source.x, across);
     let rows = visible_range(reads, up, target.y, w.top, w.bottom, source.y, down);
-    Visible { columns, rows }
+    Part { columns, rows }
 }
 
 // Those of n from `from` on that are visible.
-pub(crate) fn part(visible: Range, from: usize, n: usize) -> Range
+pub(crate) fn cut(visible: Range, from: usize, n: usize) -> Range
     requires { from + n < 18446744073709551616 }
     ensures { result ≡ part_of visible from n }
 {
     Range {
-        from: max(from, visible.from),
-        past: min(from + n, visible.past),
+        from: from.max(visible.from),
+        past: (from + n).min(visible.past),
     }
 }

@@ -1,364 +1,310 @@
-// Rows of pixels that are `width` apart, down or up: a loop for each kind of paint, those by bits in bit_loops.rt.
-ghost use Rattle.std.specs.Prelude.{◌≡◌, Bool, true, false, List, ℕ, ◌+◌, ◌≤◌, length};
-ghost use Rattle.lemmas.specs.Turns.{in_turn};
-ghost use Rattle.rows.specs.Rows.{filled_row, mixed, Plain};
-ghost use Rattle.rows.specs.declared.Mix.{Mix};
-ghost use Rattle.blits.specs.declared.Paint.TheVariants.{Solid, Copied, Moved, Stippled, StippledWithin};
-ghost use Rattle.blits.specs.Rows.{row_at, RowsFit, PaintFits};
+// Rows of pixels that are `width` apart, down or up: one loop, and the kinds of row that it draws; those by bits are in bit_loops.rt.
+ghost use Rattle.std.specs.Prelude.{◌≡◌, Bool, true, false, List, [], ℕ, ◌+◌, ◌≤◌, length};
+ghost use Rattle.rows.specs.Rows.{mixed, Plain};
+ghost use Rattle.blits.specs.declared.Paint.TheVariants.{Solid, Copied, Moved};
+ghost use Rattle.blits.specs.Rows.{row_of, rows_of, rows_drawn, PaintFits, EachFits, TargetFits, SourceFits};
 
 use crate::Paint;
 use crate::bit_loops::{stipple_rows, stipple_within};
 use crate::places::along;
-use numbers::saturating_sub;
 use raster::Pen;
 use rows::{
     Mix, copy_long_row, copy_plain_row, copy_row, copy_short_row, fill_narrow, fill_row, is_plain,
     move_plain_row, move_row, move_row_back, move_short_row,
 };
-use stipples::Stipple;
 
-// n pixels of a row with one pen.
-fn fill_one(buffer: &mut [u8], at: usize, n: usize, pen: Pen)
-    ensures { buffer.new ≡ filled_row pen n buffer.old at }
-{
-    if n <= 16 {
-        fill_narrow(buffer, at, n, pen);
-        return;
-    }
-    fill_row(buffer, at, n, pen);
+// So many rows of n pixels: the first begins at `at`, with its source at `from`; the next are `width` further, and their sources
+// `stride`, down or up.
+#[derive(Clone, Copy)]
+pub struct Rows {
+    pub up: bool,
+    pub width: usize,
+    pub stride: usize,
+    pub at: usize,
+    pub from: usize,
+    pub n: usize,
+    pub count: usize,
 }
 
-// n pixels of each of so many rows, down or up from a row that begins at `at`.
-pub(crate) fn fill_rows(
-    up: bool,
-    width: usize,
-    buffer: &mut [u8],
-    at: usize,
-    n: usize,
-    rows: usize,
+// A kind of row: how n pixels at a place are drawn, with their source at another. Kinds with the same fields are types apart, since the
+// type chooses the loop that is compiled.
+pub(crate) trait DrawRow {
+    // What they need of a buffer of so many pixels, and what they leave of one.
+    ghost fits: { Self → ℕ → ℕ → ℕ → ℕ → Type 0 };
+
+    ghost drawn: { Self → ℕ → ℕ → ℕ → List ℕ → List ℕ };
+
+    fn draw(self, buffer: &mut [u8], at: usize, from: usize, n: usize)
+        requires { fits self (length buffer.old) at from n }
+        ensures { buffer.new ≡ drawn self at from n buffer.old };
+}
+
+// Rows one after the other. It is compiled once for each kind, with what the kind draws (`inline(always)` at each `draw`), so that each
+// loop is short, and holds what one kind needs.
+pub(crate) fn draw_rows<R: DrawRow + Copy>(row: R, rows: Rows, buffer: &mut [u8])
+    requires { EachFits (λ at from. R.fits row (length buffer.old) at from rows.n) rows }
+    ensures { buffer.new ≡ rows_drawn (λ at from. R.drawn row at from rows.n) rows rows.count buffer.old }
+{
+    let mut at = rows.at;
+    let mut from = rows.from;
+    for k in 0..rows.count {
+        row.draw(buffer, at, from, rows.n);
+        at = along(rows.up, at, rows.width);
+        from = along(rows.up, from, rows.stride);
+    }
+}
+
+// The same, as a function of its own for each kind: a loop that is compiled into its caller beside the other kinds' loops keeps less of
+// what it reads in registers. Fills and rows by bits are compiled into theirs, as that is faster.
+#[inline(never)]
+pub(crate) fn draw_rows_apart<R: DrawRow + Copy>(row: R, rows: Rows, buffer: &mut [u8])
+    requires { EachFits (λ at from. R.fits row (length buffer.old) at from rows.n) rows }
+    ensures { buffer.new ≡ rows_drawn (λ at from. R.drawn row at from rows.n) rows rows.count buffer.old }
+{
+    draw_rows(row, rows, buffer);
+}
+
+// Pixels with one pen.
+#[derive(Clone, Copy)]
+struct Filled {
     pen: Pen,
-)
-    requires { RowsFit up width at n rows (length buffer.old) }
-    ensures { (back : Bool) (stride : ℕ) (other : List ℕ) (from : ℕ) → buffer.new ≡ in_turn (row_at (Solid pen) back up width stride other at from n) rows buffer.old }
-{
-    let mut to = at;
-    let mut k: usize = 0;
-    while k < rows {
-        fill_one(buffer, to, n, pen);
-        to = along(up, to, width);
-        k += 1;
+}
+
+impl DrawRow for Filled {
+    ghost fits = { λ row own at from n. at + n ≤ own };
+
+    ghost drawn = { λ row at from n l. row_of (Solid row.pen) false [] at 0 n l };
+
+    #[inline(always)]
+    fn draw(self, buffer: &mut [u8], at: usize, _from: usize, n: usize) {
+        if n <= 16 {
+            fill_narrow(buffer, at, n, self.pen);
+            return;
+        }
+        fill_row(buffer, at, n, self.pen);
     }
 }
 
-// The same from another buffer, whose rows are `stride` apart: where the new bytes are the source bytes, for 8 to 16 pixels, for 32 and
-// more, and for any number.
-fn copy_plain_rows(
-    up: bool,
-    width: usize,
-    stride: usize,
-    buffer: &mut [u8],
-    at: usize,
-    other: &[u8],
-    from: usize,
-    n: usize,
-    rows: usize,
-)
-    requires { RowsFit up width at n rows (length buffer.old) × RowsFit up stride from n rows (length other.now) }
-    ensures { (mix : Mix) → Plain (mixed mix) → (back : Bool) → buffer.new ≡ in_turn (row_at (Copied mix) back up width stride other.now at from n) rows buffer.old }
-{
-    let mut to = at;
-    let mut source = from;
-    let mut k: usize = 0;
-    while k < rows {
-        copy_plain_row(buffer, to, other, source, n);
-        to = along(up, to, width);
-        source = along(up, source, stride);
-        k += 1;
-    }
-}
-
-fn copy_short_rows(
-    up: bool,
-    width: usize,
-    stride: usize,
-    buffer: &mut [u8],
-    at: usize,
-    other: &[u8],
-    from: usize,
-    n: usize,
-    rows: usize,
+// Where pixels are copied from, and how they are mixed with the old ones.
+#[derive(Clone, Copy)]
+struct Source<'a> {
+    other: &'a [u8],
     mix: Mix,
-)
-    requires { (8 ≤ n) × (n ≤ 16) × RowsFit up width at n rows (length buffer.old) × RowsFit up stride from n rows (length other.now) }
-    ensures { (back : Bool) → buffer.new ≡ in_turn (row_at (Copied mix) back up width stride other.now at from n) rows buffer.old }
-{
-    let mut to = at;
-    let mut source = from;
-    let mut k: usize = 0;
-    while k < rows {
-        copy_short_row(buffer, to, other, source, n, mix);
-        to = along(up, to, width);
-        source = along(up, source, stride);
-        k += 1;
+}
+
+// Pixels from another buffer: where the new bytes are the source bytes, for 8 to 16 pixels, for 32 and more, and for any number.
+#[derive(Clone, Copy)]
+struct PlainCopy<'a>(Source<'a>);
+
+#[derive(Clone, Copy)]
+struct ShortCopy<'a>(Source<'a>);
+
+#[derive(Clone, Copy)]
+struct LongCopy<'a>(Source<'a>);
+
+#[derive(Clone, Copy)]
+struct AnyCopy<'a>(Source<'a>);
+
+impl DrawRow for PlainCopy<'_> {
+    ghost fits = { λ row own at from n. Plain (mixed row.0.mix) × (at + n ≤ own) × (from + n ≤ length row.0.other.now) };
+
+    ghost drawn = { λ row at from n l. row_of (Copied row.0.mix) false row.0.other.now at from n l };
+
+    #[inline(always)]
+    fn draw(self, buffer: &mut [u8], at: usize, from: usize, n: usize) {
+        copy_plain_row(buffer, at, self.0.other, from, n);
     }
 }
 
-fn copy_long_rows(
-    up: bool,
-    width: usize,
-    stride: usize,
-    buffer: &mut [u8],
-    at: usize,
-    other: &[u8],
-    from: usize,
-    n: usize,
-    rows: usize,
-    mix: Mix,
-)
-    requires { (32 ≤ n) × RowsFit up width at n rows (length buffer.old) × RowsFit up stride from n rows (length other.now) }
-    ensures { (back : Bool) → buffer.new ≡ in_turn (row_at (Copied mix) back up width stride other.now at from n) rows buffer.old }
-{
-    let mut to = at;
-    let mut source = from;
-    let mut k: usize = 0;
-    while k < rows {
-        copy_long_row(buffer, to, other, source, n, mix);
-        to = along(up, to, width);
-        source = along(up, source, stride);
-        k += 1;
+impl DrawRow for ShortCopy<'_> {
+    ghost fits = { λ row own at from n. (8 ≤ n) × (n ≤ 16) × (at + n ≤ own) × (from + n ≤ length row.0.other.now) };
+
+    ghost drawn = { λ row at from n l. row_of (Copied row.0.mix) false row.0.other.now at from n l };
+
+    #[inline(always)]
+    fn draw(self, buffer: &mut [u8], at: usize, from: usize, n: usize) {
+        copy_short_row(buffer, at, self.0.other, from, n, self.0.mix);
     }
 }
 
-fn copy_any_rows(
-    up: bool,
-    width: usize,
-    stride: usize,
-    buffer: &mut [u8],
-    at: usize,
-    other: &[u8],
-    from: usize,
-    n: usize,
-    rows: usize,
-    mix: Mix,
-)
-    requires { RowsFit up width at n rows (length buffer.old) × RowsFit up stride from n rows (length other.now) }
-    ensures { (back : Bool) → buffer.new ≡ in_turn (row_at (Copied mix) back up width stride other.now at from n) rows buffer.old }
-{
-    let mut to = at;
-    let mut source = from;
-    let mut k: usize = 0;
-    while k < rows {
-        copy_row(buffer, to, other, source, n, mix);
-        to = along(up, to, width);
-        source = along(up, source, stride);
-        k += 1;
+impl DrawRow for LongCopy<'_> {
+    ghost fits = { λ row own at from n. (32 ≤ n) × (at + n ≤ own) × (from + n ≤ length row.0.other.now) };
+
+    ghost drawn = { λ row at from n l. row_of (Copied row.0.mix) false row.0.other.now at from n l };
+
+    #[inline(always)]
+    fn draw(self, buffer: &mut [u8], at: usize, from: usize, n: usize) {
+        copy_long_row(buffer, at, self.0.other, from, n, self.0.mix);
     }
 }
 
-fn copy_rows(
-    up: bool,
-    width: usize,
-    stride: usize,
-    buffer: &mut [u8],
-    at: usize,
-    other: &[u8],
-    from: usize,
-    n: usize,
-    rows: usize,
-    mix: Mix,
-)
-    requires { RowsFit up width at n rows (length buffer.old) × RowsFit up stride from n rows (length other.now) }
-    ensures { (back : Bool) → buffer.new ≡ in_turn (row_at (Copied mix) back up width stride other.now at from n) rows buffer.old }
+impl DrawRow for AnyCopy<'_> {
+    ghost fits = { λ row own at from n. (at + n ≤ own) × (from + n ≤ length row.0.other.now) };
+
+    ghost drawn = { λ row at from n l. row_of (Copied row.0.mix) false row.0.other.now at from n l };
+
+    #[inline(always)]
+    fn draw(self, buffer: &mut [u8], at: usize, from: usize, n: usize) {
+        copy_row(buffer, at, self.0.other, from, n, self.0.mix);
+    }
+}
+
+// Rows from another buffer.
+fn copy_rows(rows: Rows, buffer: &mut [u8], other: &[u8], mix: Mix)
+    requires { TargetFits rows (length buffer.old) × SourceFits rows (length other.now) }
+    ensures { (back : Bool) → buffer.new ≡ rows_of (Copied mix) back other.now rows buffer.old }
 {
+    let source = Source { other, mix };
     if is_plain(mix) {
-        copy_plain_rows(up, width, stride, buffer, at, other, from, n, rows);
+        draw_rows_apart(PlainCopy(source), rows, buffer);
         return;
     }
-    if (8 <= n) & (n <= 16) {
-        copy_short_rows(up, width, stride, buffer, at, other, from, n, rows, mix);
+    if (8 <= rows.n) & (rows.n <= 16) {
+        draw_rows_apart(ShortCopy(source), rows, buffer);
         return;
     }
-    if 32 <= n {
-        copy_long_rows(up, width, stride, buffer, at, other, from, n, rows, mix);
+    if 32 <= rows.n {
+        draw_rows_apart(LongCopy(source), rows, buffer);
         return;
     }
-    copy_any_rows(up, width, stride, buffer, at, other, from, n, rows, mix);
+    draw_rows_apart(AnyCopy(source), rows, buffer);
 }
 
-// The same from the buffer itself: where the new bytes are the source bytes, for 8 to 16 pixels, and for any number from left to right
+// Pixels from the buffer itself: where the new bytes are the source bytes, for 8 to 16 pixels, and for any number from left to right
 // and from right to left.
-fn move_plain_rows(
+#[derive(Clone, Copy)]
+struct PlainMove {
     back: bool,
-    up: bool,
-    width: usize,
-    stride: usize,
-    buffer: &mut [u8],
-    at: usize,
-    from: usize,
-    n: usize,
-    rows: usize,
-)
-    requires { RowsFit up width at n rows (length buffer.old) × RowsFit up stride from n rows (length buffer.old) }
-    ensures { (mix : Mix) → Plain (mixed mix) → (other : List ℕ) → buffer.new ≡ in_turn (row_at (Moved mix) back up width stride other at from n) rows buffer.old }
-{
-    let mut to = at;
-    let mut source = from;
-    let mut k: usize = 0;
-    while k < rows {
-        move_plain_row(back, buffer, to, source, n);
-        to = along(up, to, width);
-        source = along(up, source, stride);
-        k += 1;
-    }
+    mix: Mix,
 }
 
-fn move_short_rows(
+#[derive(Clone, Copy)]
+struct ShortMove {
     back: bool,
-    up: bool,
-    width: usize,
-    stride: usize,
-    buffer: &mut [u8],
-    at: usize,
-    from: usize,
-    n: usize,
-    rows: usize,
     mix: Mix,
-)
-    requires { (8 ≤ n) × (n ≤ 16) × RowsFit up width at n rows (length buffer.old) × RowsFit up stride from n rows (length buffer.old) }
-    ensures { (other : List ℕ) → buffer.new ≡ in_turn (row_at (Moved mix) back up width stride other at from n) rows buffer.old }
-{
-    let mut to = at;
-    let mut source = from;
-    let mut k: usize = 0;
-    while k < rows {
-        move_short_row(back, buffer, to, source, n, mix);
-        to = along(up, to, width);
-        source = along(up, source, stride);
-        k += 1;
+}
+
+#[derive(Clone, Copy)]
+struct RightMove {
+    mix: Mix,
+}
+
+#[derive(Clone, Copy)]
+struct LeftMove {
+    mix: Mix,
+}
+
+impl DrawRow for PlainMove {
+    ghost fits = { λ row own at from n. Plain (mixed row.mix) × (at + n ≤ own) × (from + n ≤ own) };
+
+    ghost drawn = { λ row at from n l. row_of (Moved row.mix) row.back [] at from n l };
+
+    #[inline(always)]
+    fn draw(self, buffer: &mut [u8], at: usize, from: usize, n: usize) {
+        move_plain_row(self.back, buffer, at, from, n);
     }
 }
 
-fn move_right_rows(
-    up: bool,
-    width: usize,
-    stride: usize,
-    buffer: &mut [u8],
-    at: usize,
-    from: usize,
-    n: usize,
-    rows: usize,
-    mix: Mix,
-)
-    requires { RowsFit up width at n rows (length buffer.old) × RowsFit up stride from n rows (length buffer.old) }
-    ensures { (other : List ℕ) → buffer.new ≡ in_turn (row_at (Moved mix) false up width stride other at from n) rows buffer.old }
-{
-    let mut to = at;
-    let mut source = from;
-    let mut k: usize = 0;
-    while k < rows {
-        move_row(buffer, to, source, n, mix);
-        to = along(up, to, width);
-        source = along(up, source, stride);
-        k += 1;
+impl DrawRow for ShortMove {
+    ghost fits = { λ row own at from n. (8 ≤ n) × (n ≤ 16) × (at + n ≤ own) × (from + n ≤ own) };
+
+    ghost drawn = { λ row at from n l. row_of (Moved row.mix) row.back [] at from n l };
+
+    #[inline(always)]
+    fn draw(self, buffer: &mut [u8], at: usize, from: usize, n: usize) {
+        move_short_row(self.back, buffer, at, from, n, self.mix);
     }
 }
 
-fn move_left_rows(
-    up: bool,
-    width: usize,
-    stride: usize,
-    buffer: &mut [u8],
-    at: usize,
-    from: usize,
-    n: usize,
-    rows: usize,
-    mix: Mix,
-)
-    requires { RowsFit up width at n rows (length buffer.old) × RowsFit up stride from n rows (length buffer.old) }
-    ensures { (other : List ℕ) → buffer.new ≡ in_turn (row_at (Moved mix) true up width stride other at from n) rows buffer.old }
-{
-    let mut to = at;
-    let mut source = from;
-    let mut k: usize = 0;
-    while k < rows {
-        move_row_back(buffer, to + n, source + n, n, mix);
-        to = along(up, to, width);
-        source = along(up, source, stride);
-        k += 1;
+impl DrawRow for RightMove {
+    ghost fits = { λ row own at from n. (at + n ≤ own) × (from + n ≤ own) };
+
+    ghost drawn = { λ row at from n l. row_of (Moved row.mix) false [] at from n l };
+
+    #[inline(always)]
+    fn draw(self, buffer: &mut [u8], at: usize, from: usize, n: usize) {
+        move_row(buffer, at, from, n, self.mix);
+    }
+}
+
+impl DrawRow for LeftMove {
+    ghost fits = { λ row own at from n. (at + n ≤ own) × (from + n ≤ own) };
+
+    ghost drawn = { λ row at from n l. row_of (Moved row.mix) true [] at from n l };
+
+    #[inline(always)]
+    fn draw(self, buffer: &mut [u8], at: usize, from: usize, n: usize) {
+        move_row_back(buffer, at + n, from + n, n, self.mix);
     }
 }
 
 // Whether each row is read from the one that was drawn before it. Byte by byte that is faster than by words that overlap.
-fn reads_last_row(up: bool, width: usize, at: usize, from: usize) -> bool {
-    if up {
-        return saturating_sub(from, at) == width;
+fn reads_last_row(rows: Rows) -> bool {
+    if rows.up {
+        return rows.from.saturating_sub(rows.at) == rows.width;
     }
-    saturating_sub(at, from) == width
+    rows.at.saturating_sub(rows.from) == rows.width
 }
 
-fn move_rows(
-    back: bool,
-    up: bool,
-    width: usize,
-    stride: usize,
-    buffer: &mut [u8],
-    at: usize,
-    from: usize,
-    n: usize,
-    rows: usize,
-    mix: Mix,
-)
-    requires { RowsFit up width at n rows (length buffer.old) × RowsFit up stride from n rows (length buffer.old) }
-    ensures { (other : List ℕ) → buffer.new ≡ in_turn (row_at (Moved mix) back up width stride other at from n) rows buffer.old }
+// Rows from the buffer itself.
+fn move_rows(back: bool, rows: Rows, buffer: &mut [u8], mix: Mix)
+    requires { TargetFits rows (length buffer.old) × SourceFits rows (length buffer.old) }
+    ensures { (other : List ℕ) → buffer.new ≡ rows_of (Moved mix) back other rows buffer.old }
 {
     if is_plain(mix) {
-        move_plain_rows(back, up, width, stride, buffer, at, from, n, rows);
+        draw_rows_apart(PlainMove { back, mix }, rows, buffer);
         return;
     }
-    let smears = reads_last_row(up, width, at, from);
-    if (8 <= n) & (n <= 16) & !smears {
-        move_short_rows(back, up, width, stride, buffer, at, from, n, rows, mix);
+    if (8 <= rows.n) & (rows.n <= 16) & !reads_last_row(rows) {
+        draw_rows_apart(ShortMove { back, mix }, rows, buffer);
         return;
     }
     if back {
-        move_left_rows(up, width, stride, buffer, at, from, n, rows, mix);
+        draw_rows_apart(LeftMove { mix }, rows, buffer);
         return;
     }
-    move_right_rows(up, width, stride, buffer, at, from, n, rows, mix);
+    draw_rows_apart(RightMove { mix }, rows, buffer);
 }
 
-// The same, whatever the rows are painted from.
-pub(crate) fn paint_rows(
-    paint: Paint,
-    back: bool,
-    up: bool,
-    width: usize,
-    stride: usize,
-    buffer: &mut [u8],
-    at: usize,
-    other: &[u8],
-    from: usize,
-    n: usize,
-    rows: usize,
-)
-    requires { PaintFits paint up width stride at from n rows (length other.now) (length buffer.old) }
-    ensures { buffer.new ≡ in_turn (row_at paint back up width stride other.now at from n) rows buffer.old }
+// Rows with one pen.
+#[inline(always)]
+pub(crate) fn fill_rows(rows: Rows, buffer: &mut [u8], pen: Pen)
+    requires { TargetFits rows (length buffer.old) }
+    ensures { (back : Bool) (stride from : ℕ) (other : List ℕ) → buffer.new ≡ rows_of (Solid pen) back other (record rows { stride = stride; from = from }) buffer.old }
+{
+    let alone = Rows {
+        up: rows.up,
+        width: rows.width,
+        stride: 0,
+        at: rows.at,
+        from: 0,
+        n: rows.n,
+        count: rows.count,
+    };
+    draw_rows(Filled { pen }, alone, buffer);
+}
+
+// Rows, whatever they are painted from; `back` where each is drawn from right to left.
+// Kept: a match, since the kinds of paint are a closed set.
+pub(crate) fn paint_rows(paint: Paint, back: bool, rows: Rows, buffer: &mut [u8], other: &[u8])
+    requires { PaintFits paint rows (length other.now) (length buffer.old) }
+    ensures { buffer.new ≡ rows_of paint back other.now rows buffer.old }
 {
     match paint {
         Paint::Solid(pen) => {
-            fill_rows(up, width, buffer, at, n, rows, pen);
+            fill_rows(rows, buffer, pen);
         }
         Paint::Copied(mix) => {
-            copy_rows(up, width, stride, buffer, at, other, from, n, rows, mix);
+            copy_rows(rows, buffer, other, mix);
         }
         Paint::Moved(mix) => {
-            move_rows(back, up, width, stride, buffer, at, from, n, rows, mix);
+            move_rows(back, rows, buffer, mix);
         }
         Paint::Stippled(s) => {
-            stipple_rows(up, width, buffer, at, other, from, n, rows, s);
+            stipple_rows(rows, buffer, other, s);
         }
         Paint::StippledWithin(s) => {
-            stipple_within(back, up, width, buffer, at, from, n, rows, s);
+            stipple_within(back, rows, buffer, s);
         }
     }
 }

@@ -1,18 +1,17 @@
 // Blits from a tile (document 02, R-7): copies from a buffer that the tile covers, each pixel from its own place.
-ghost use Rattle.std.specs.Prelude.{◌≡◌, Bool, true, ◌+◌, ◌<◌, length};
-ghost use Rattle.lemmas.specs.Turns.{in_turn};
-ghost use Rattle.rows.specs.Rows.{unkeyed};
-ghost use Rattle.blits.specs.declared.Paint.TheVariants.{Copied};
-ghost use Rattle.blits.specs.Blits.{visited, window_inside, blitted, Fitting};
+ghost use Rattle.std.specs.Prelude.{◌≡◌, Bool, true, List, ℕ, ◌+◌, ◌-◌, ◌≤◌, ◌<◌, length};
+ghost use Rattle.rows.specs.Rows.{mixed, unkeyed, tiled};
+ghost use Rattle.tiles.specs.Tiles.{doubled_of};
+ghost use Rattle.blits.specs.Blits.{window_inside, blitted};
 ghost use Rattle.blits.specs.Ranges.{visible_of};
-ghost use Rattle.blits.specs.Rows.{row_at, box_of};
-ghost use Rattle.blits.specs.Tiled.{copy_of, plane_of, Doubled, TileRows, TileBox};
+ghost use Rattle.blits.specs.Tiled.{copy_of, plane_of, wide_pixel, Doubled};
 
+use crate::parts::{DrawPart, draw_visits, draw_whole, is_empty};
 use crate::places::{along, left_edge, place_at};
-use crate::ranges::{Range, Visible, part, window_ranges};
-use crate::{Blit, Paint, blit_fits, rows_at_once};
-use geometry::{Window, blit_count, point_of};
-use numbers::min;
+use crate::ranges::window_ranges;
+use crate::row_loops::{DrawRow, Rows, draw_rows};
+use crate::{Blit, Paint, blit_fits};
+use geometry::{Part, Window, blit_count, point_of};
 use raster::Selectors;
 use rows::{Mix, tile_row};
 use tiles::{Tile, put_twice};
@@ -26,6 +25,7 @@ pub struct Tiling {
     pub window: Window,
     pub to: u32,
     pub size: u32,
+    // Kept: XY3's word, as in Blit.
     pub direction: u32,
 }
 
@@ -37,8 +37,7 @@ fn copy_of(t: Tiling) -> Blit
     let window = t.window;
     let mix = Mix {
         selectors,
-        keyed: false,
-        key: 0,
+        key: None,
     };
     Blit {
         paint: Paint::Copied(mix),
@@ -52,111 +51,76 @@ fn copy_of(t: Tiling) -> Blit
     }
 }
 
-// n pixels of each of so many rows, down or up from a row that begins at `at`, column x and row y of the buffer.
-fn tile_rows(
-    up: bool,
-    width: usize,
-    buffer: &mut [u8],
-    at: usize,
-    wide: &[u8],
+// Pixels of a tile, from column x of it on; the source is its row. `wide` has the tile's rows, each twice.
+#[derive(Clone, Copy)]
+struct TileRow<'a> {
+    wide: &'a [u8; 256],
     x: usize,
-    y: usize,
-    n: usize,
-    rows: usize,
     selectors: Selectors,
-)
-    requires { TileRows up width at x y n rows wide.now (length buffer.old) }
-    ensures { (back : Bool) (p : TileRows up width at x y n rows wide.now (length buffer.old)) → buffer.new ≡ in_turn (row_at (Copied (unkeyed selectors)) back up width width p.plane at at n) rows buffer.old }
-{
-    let mut to = at;
-    let mut line = y;
-    let mut k: usize = 0;
-    while k < rows {
-        tile_row(buffer, to, n, wide, x, line, selectors);
-        to = along(up, to, width);
-        line = along(up, line, 1);
-        k += 1;
+}
+
+impl DrawRow for TileRow<'_> {
+    ghost fits = { λ row own at y n. (at + n ≤ own) × Doubled row.wide.now };
+
+    ghost drawn = { λ row at y n l. tiled (mixed (unkeyed row.selectors)) n l at (λ i. wide_pixel row.wide.now y (row.x + i)) };
+
+    fn draw(self, buffer: &mut [u8], at: usize, from: usize, n: usize) {
+        let wide = self.wide;
+        tile_row(buffer, at, n, wide, self.x, from, self.selectors);
     }
 }
 
-// The columns `across` of the rows `down` of a blit to a corner.
-fn tile_box(
-    selectors: Selectors,
-    width: u32,
-    to: u32,
-    direction: u32,
-    across: Range,
-    down: Range,
-    buffer: &mut [u8],
-    wide: &[u8],
-)
-    requires { TileBox selectors width to direction across down wide.now (length buffer.old) }
-    ensures { (p : TileBox selectors width to direction across down wide.now (length buffer.old)) → buffer.new ≡ box_of (Copied (unkeyed selectors)) width to to direction across down (plane_of width p.height p.tile) buffer.old }
-{
-    let a = across.from;
-    let z = across.past;
-    let top = down.from;
-    let bottom = down.past;
-    if z <= a {
-        return;
+// A blit from a tile, with the tile's rows, each twice: an array, so that no row asks how long they are.
+#[derive(Clone, Copy)]
+pub struct Tiled<'a> {
+    pub tiling: Tiling,
+    pub tile: &'a Tile,
+    pub wide: &'a [u8; 256],
+    pub ghost twice: { wide.now ≡ doubled_of tile.now },
+}
+
+impl DrawPart for Tiled<'_> {
+    ghost blit = { λ d. copy_of d.tiling };
+
+    ghost other = { λ d. plane_of d.tiling.width d.tiling.height d.tile.now };
+
+    fn draw(self, part: Part, buffer: &mut [u8]) {
+        if is_empty(part) {
+            return;
+        }
+        let t = self.tiling;
+        let corner = point_of(t.to);
+        let x = left_edge(t.direction / 2 % 2 == 1, corner.x, part.columns);
+        let rows = Rows {
+            up: t.direction % 2 == 1,
+            width: t.width as usize,
+            stride: 1,
+            at: place_at(
+                t.to,
+                t.width as usize,
+                t.direction,
+                part.columns,
+                part.rows.from,
+            ),
+            from: along(t.direction % 2 == 1, corner.y, part.rows.from),
+            n: part.columns.len(),
+            count: part.rows.len(),
+        };
+        let row = TileRow {
+            wide: self.wide,
+            x,
+            selectors: t.selectors,
+        };
+        draw_rows(row, rows, buffer);
     }
-    if bottom <= top {
-        return;
-    }
-    let at = place_at(to, width as usize, direction, a, z, top);
-    let corner = point_of(to);
-    let x = left_edge(direction / 2 % 2 == 1, corner.x, a, z);
-    let y = along(direction % 2 == 1, corner.y, top);
-    tile_rows(
-        direction % 2 == 1,
-        width as usize,
-        buffer,
-        at,
-        wide,
-        x,
-        y,
-        z - a,
-        bottom - top,
-        selectors,
-    );
 }
 
 // The visible columns and rows, by the window alone: a pixel of the window is in the buffer.
-fn shown_of(t: Tiling) -> Visible
+fn shown_of(t: Tiling) -> Part
     requires { window_inside t.width t.height t.window ≡ true }
     ensures { result ≡ visible_of (copy_of t) }
 {
     window_ranges(t.window, t.to, t.direction)
-}
-
-// n visits from visit `first` on: what is left of a row, whole rows, and the start of a row.
-fn draw_tile_rows(t: Tiling, shown: Visible, first: usize, n: usize, buffer: &mut [u8], wide: &[u8])
-    requires { (0 < n) × Fitting (copy_of t) first n (length buffer.old) (length buffer.old) × (shown ≡ visible_of (copy_of t)) × Doubled wide.now }
-    ensures { (d : Doubled wide.now) → buffer.new ≡ in_turn (λ i. visited (copy_of t) (plane_of t.width t.height d.tile) (first + i)) n buffer.old }
-{
-    let across = (t.size / 65536) as usize;
-    let mut row = first / across;
-    let mut column = first % across;
-    let mut k: usize = 0;
-    while first + k < first + n {
-        let m = min(n - k, across - column);
-        let rows = rows_at_once(across, m, n - k);
-        let columns = part(shown.columns, column, m);
-        let lines = part(shown.rows, row, rows);
-        tile_box(
-            t.selectors,
-            t.width,
-            t.to,
-            t.direction,
-            columns,
-            lines,
-            buffer,
-            wide,
-        );
-        k += m * rows;
-        row += rows;
-        column = 0;
-    }
 }
 
 // n visits of a blit from a tile, from visit `first` on.
@@ -171,21 +135,15 @@ pub fn draw_tiled(t: Tiling, tile: Tile, first: usize, n: usize, buffer: &mut [u
     }
     let mut wide: [u8; 256] = [0; 256];
     put_twice(tile, &mut wide);
+    let tiled = Tiled {
+        tiling: t,
+        tile: &tile,
+        wide: &wide,
+    };
     let shown = shown_of(t);
     if n == blit_count(t.size) {
-        let columns = part(shown.columns, 0, (t.size / 65536) as usize);
-        let lines = part(shown.rows, 0, (t.size % 65536) as usize);
-        tile_box(
-            t.selectors,
-            t.width,
-            t.to,
-            t.direction,
-            columns,
-            lines,
-            buffer,
-            &wide,
-        );
+        draw_whole(tiled, shown, t.size, buffer);
         return;
     }
-    draw_tile_rows(t, shown, first, n, buffer, &wide);
+    draw_visits(tiled, shown, t.size, first, n, buffer);
 }

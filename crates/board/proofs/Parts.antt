@@ -1,17 +1,21 @@
 -- Runs in parts: the steps of one list, of a held fill, and of all lists.
 -- Assumes nothing.
 use mathlib.Core.Path.{◌≡◌, refl, ap, sym, subst, ◌∙◌}
-use mathlib.Core.Bool.{Bool, true, false, not, ◌&&◌, false≢true}
+use mathlib.Core.Bool.{Bool, true, false, ◌&&◌, false≢true}
 use mathlib.Core.List.{List}
 use Prim.Native.Nat.{ℕ, suc, ◌+◌, ◌-◌, ◌*◌, ◌≤◌, ◌<◌}
 use native.Mathlib.Omega.{arith}
-use borrow.Author.Tests.{ltb-true, ltb-false, le-leb, not-false}
+use borrow.Author.Tests.{ltb-true, ltb-false, le-leb}
 use lib.Dec.{eqb, ltb}
 use lib.ListN.{length}
 use Rattle.lemmas.proofs.Booleans.{by_cases, and_left, and_right, both, second-of}
-use Rattle.answers.specs.Reports.{report}
-use Rattle.answers.specs.declared.Status.{Status}
-use Rattle.answers.specs.declared.Status.TheVariants.{Done, IllegalFetch}
+use Rattle.std.specs.Prelude.{◌⊎◌, Result, Ok, Err}
+use Rattle.std.proofs.Common.{inl, inr}
+use Rattle.std.specs.declared.ops.ControlFlow.{ControlFlow}
+use Rattle.std.specs.declared.ops.ControlFlow.TheVariants.{Continue, Break}
+use Rattle.answers.specs.Reports.{report, status_in, goes_on}
+use Rattle.answers.specs.declared.Refusal.{Refusal}
+use Rattle.answers.specs.declared.Refusal.TheVariants.{Malformed, WrongSize, IllegalFetch}
 use Rattle.tiles.specs.Tiles.{no_fill, Sized}
 use Rattle.tiles.specs.declared.Fill.{Fill}
 use Rattle.lists.specs.Spans.{end_of}
@@ -35,7 +39,7 @@ use Rattle.slots.proofs.Slotted.{Visiting, limits_of, active-inside, active-end,
 use Rattle.board.specs.Record.{well_formed}
 use Rattle.board.specs.Steps.{Machine, machine, next_on, with_steps, settled_of, moved_to, scene_of, step_of}
 use Rattle.board.specs.Runs.{Outcome, ended, added, by_next, run_of, run_call}
-use Rattle.board.specs.Bare.{tiled_board, tiled, bare_of, Accepted, Cuts, Leaps, steps_in, answered, BareRan, HatchRan}
+use Rattle.board.specs.Bare.{tiled_board, tiled, bare_of, Accepted, Cuts, Leaps, steps_in, answered, part_by, BareRan, HatchRan}
 use Rattle.board.specs.declared.bare.Bare.{Bare}
 use Rattle.board.specs.declared.bare.BareAnswer.{BareAnswer}
 use Rattle.board.specs.declared.bare.Leap.{Leap}
@@ -43,7 +47,7 @@ use Rattle.board.specs.declared.record.Board.{Board}
 use Rattle.board.specs.declared.runs.HatchAnswer.{HatchAnswer}
 use Rattle.board.proofs.Forms.{Good, good_of, well-of, active-of, at_rest, next-within}
 use Rattle.board.proofs.Keeps.{moved-good, settled-sizes, settled-engine, settled-fill}
-use Rattle.board.proofs.Refused.{run-accepted}
+use Rattle.board.proofs.Refused.{run-malformed, run-wrong-size, run-accepted}
 use Rattle.board.proofs.Replies.{run-no-place}
 use Rattle.board.proofs.Goes.{run_by, added_none, added-added, over, settle-live, after, Leads, on_list, list-leads, going_on}
 use Rattle.board.proofs.Tiled.{taken-ok, untiled, none-held, run_sound, hatch-sound, cut-sound}
@@ -179,27 +183,47 @@ module _ (budget : ℕ) (l : List ℕ) (b : Bare) (d₀ v₀ : List ℕ) (r : Li
             (ran.cut (runs l m ok) (sym (ap hatches engine-same) ∙ h)).0);
       })
 
+-- ---- a run that is refused
+abbrev pub Refuses : List ℕ → Machine → Refusal → Type 0
+Refuses l m why =
+    ((why ≡ Malformed) × (well_formed m.board ≡ false))
+    ⊎ ((why ≡ WrongSize) × (well_formed m.board ≡ true)
+    × (lent_ok m.board.sizes (length l) (length m.display) (length m.virt) ≡ false))
+
+refused-run : (budget : ℕ) (l : List ℕ) (m : Machine) (why : Refusal) → Refuses l m why → answered (Err why) m ≡ run_call budget l m
+refused-run budget l m why (inl w) = ap (λ e. answered (Err e) m) w.0 ∙ run-malformed budget l m w.1
+refused-run budget l m why (inr w) = ap (λ e. answered (Err e) m) w.0 ∙ run-wrong-size budget l m w.1 w.2
+
+refuses-steps : (l : List ℕ) (m : Machine) (why : Refusal) → Refuses l m why → steps_in (Err why) ≡ 0
+refuses-steps l m why (inl w) = ap (λ e. steps_in (Err e)) w.0
+refuses-steps l m why (inr w) = ap (λ e. steps_in (Err e)) w.0
+
+refuses-none : (l : List ℕ) (m : Machine) (why : Refusal) → Refuses l m why → Accepted l m → ⊥
+refuses-none l m why (inl w) ok = false≢true (sym w.1 ∙ ok.0)
+refuses-none l m why (inr w) ok = false≢true (sym w.2 ∙ ok.1)
+
 -- ---- the steps of a held fill
 
 -- a refused call
-pub hatch-refused : (budget : ℕ) (l : List ℕ) (m : Machine) (s : Status) → steps_in s ≡ 0 → answered s m ≡ run_call budget l m
-    → (Accepted l m → ⊥) → HatchRan budget l m (record { status = s; board = m.board; ended = true }) m.display m.virt
-hatch-refused budget l m s none is refused =
+pub hatch-refused : (budget : ℕ) (l : List ℕ) (m : Machine) (why : Refusal) → Refuses l m why
+    → HatchRan budget l m (record { part = Break (Err why); board = m.board }) m.display m.virt
+hatch-refused budget l m why refuses =
+    let is = refused-run budget l m why refuses in
     record {
       part = record {
-        few = omega arith;
+        few = omega (arith, (refuses-steps l m why refuses));
         whole = λ _. is;
         rest = λ f. absurd (false≢true f);
         accepted = λ f. absurd (false≢true f);
       };
-      free = λ f. absurd (false≢true (sym f));
+      free = λ f. absurd (false≢true f);
       cut = λ _ _. is;
-      done = λ ok. absurd (refused ok);
+      done = λ ok. absurd (refuses-none l m why refuses ok);
     }
 
 -- no fill is held
 pub hatch-none : (budget : ℕ) (l : List ℕ) (m : Machine) → Accepted l m → Sized m.board.fill.tile → hatches m.board.engine ≡ false
-    → HatchRan budget l m (record { status = Done 0; board = m.board; ended = false }) m.display m.virt
+    → HatchRan budget l m (record { part = Continue 0; board = m.board }) m.display m.virt
 hatch-none budget l m ok sized h =
     record {
       part = record {
@@ -251,7 +275,7 @@ module _ (budget : ℕ) (l : List ℕ) (m : Machine) (k : ℕ) (e : Engine) (d v
       hatch-going hatch-accepted.0
       ∙ accepted-run budget l m ok
 
-  hatch-spent : budget ≤ k → answered (Done k) to ≡ run_call budget l m
+  hatch-spent : budget ≤ k → answered (Ok k) to ≡ run_call budget l m
   unfolding run_of
   hatch-spent q =
       let none : budget - k ≡ 0 = omega arith in
@@ -261,27 +285,44 @@ module _ (budget : ℕ) (l : List ℕ) (m : Machine) (k : ℕ) (e : Engine) (d v
 
   pub hatch-is : (x : Board) (f : Fill) (t : Bool) → f ≡ fill_after e m.board.fill
       → x ≡ settled_of (with_steps m.board m.board.active.cursor e f)
-      → t ≡ hatches e → HatchRan budget l m (record { status = Done k; board = x; ended = t }) d v
-  hatch-is x f t p q w =
+      → t ≡ hatches e → (part : ControlFlow (Result ℕ Refusal) ℕ) → part ≡ part_by t k
+      → HatchRan budget l m (record { part = part; board = x }) d v
+  hatch-is x f t p q w part g =
       let c = m.board.active.cursor in
       let at : x ≡ to.board = q ∙ ap (λ f. settled_of (with_steps m.board c e f)) p in
       let unsettled = with_steps m.board c e s.fill in
-      subst (λ x. HatchRan budget l m (record { status = Done k; board = x; ended = t }) d v) (sym at)
-      (record {
-        part = record {
-          few = done.few;
-          whole = λ o. hatch-spent (done.still (sym w ∙ not-false t o));
-          rest = λ _. hatch-run;
-          accepted = λ _. hatch-accepted;
-        };
-        free = λ o.
-            let rests = sym w ∙ o in (
-              ap hatches (settled-engine unsettled) ∙ rests,
-              settled-fill unsettled ∙ sym (second-of e.under_way m.board.fill no_fill (done.rests h rests)),
+      subst (λ part. HatchRan budget l m (record { part = part; board = x }) d v) (sym g)
+      (subst (λ x. HatchRan budget l m (record { part = part_by t k; board = x }) d v) (sym at) (ran t w))
+    where
+      ran : (t : Bool) → t ≡ hatches e → HatchRan budget l m (record { part = part_by t k; board = to.board }) d v
+      ran true w =
+          record {
+            part = record {
+              few = done.few;
+              whole = λ _. hatch-spent (done.still (sym w));
+              rest = λ o. absurd (false≢true o);
+              accepted = λ o. absurd (false≢true o);
+            };
+            free = λ o. absurd (false≢true o);
+            cut = λ _ few. hatch-spent (done.spent h (omega arith));
+            done = λ _. refl;
+          }
+      ran false w =
+          record {
+            part = record {
+              few = done.few;
+              whole = λ o. absurd (false≢true (sym o));
+              rest = λ _. hatch-run;
+              accepted = λ _. hatch-accepted;
+            };
+            free = λ _. (
+              ap hatches (settled-engine (with_steps m.board m.board.active.cursor e s.fill)) ∙ sym w,
+              settled-fill (with_steps m.board m.board.active.cursor e s.fill)
+                  ∙ sym (second-of e.under_way m.board.fill no_fill (done.rests h (sym w))),
             );
-        cut = λ _ few. hatch-spent (done.spent h (omega arith));
-        done = λ _. refl;
-      })
+            cut = λ _ few. hatch-spent (done.spent h (omega arith));
+            done = λ _. refl;
+          }
 
 -- ---- the loop over the lists: k steps are done, and the rest of the run is that from here
 pub record Running (budget : ℕ) (l : List ℕ) (o : Outcome) (m₀ : Machine) (k : ℕ) (m : Machine) : Type 0 where
@@ -331,40 +372,39 @@ module _ (budget : ℕ) (l : List ℕ) (o : Outcome) (m₀ : Machine) (k : ℕ) 
       }
 
 -- the whole run
-ran-whole : (budget : ℕ) (l : List ℕ) (o : Outcome) (b : Bare) (r : BareAnswer) (d v : List ℕ) → r.cut ≡ false
-    → steps_in r.status ≤ budget
-    → answered r.status (tiled r.bare d v) ≡ o → (hatches b.engine ≡ false → hatches r.bare.engine ≡ false)
-    → BareRan budget l o b r d v
-ran-whole budget l o b r d v c few is free =
+ran-whole : (budget : ℕ) (l : List ℕ) (o : Outcome) (b : Bare) (status : Result ℕ Refusal) (c : Bare) (d v : List ℕ) → steps_in status ≤ budget
+    → answered status (tiled c d v) ≡ o → (hatches b.engine ≡ false → hatches c.engine ≡ false)
+    → BareRan budget l o b (record { part = Break status; bare = c }) d v
+ran-whole budget l o b status c d v few is free =
     record {
       part = record {
         few = few;
         whole = λ _. is;
-        rest = λ f. absurd (false≢true (sym c ∙ f));
-        accepted = λ f. absurd (false≢true (sym c ∙ f));
+        rest = λ f. absurd (false≢true f);
+        accepted = λ f. absurd (false≢true f);
       };
       free = λ _. free;
-      cut = λ f. absurd (false≢true (sym c ∙ f));
+      cut = λ f. absurd (false≢true f);
     }
 
 -- a refused call
-pub bare-refused : (budget : ℕ) (l : List ℕ) (o : Outcome) (b : Bare) (s : Status) (d v : List ℕ) → steps_in s ≡ 0
-    → answered s (tiled b d v) ≡ o
-    → BareRan budget l o b (record { status = s; bare = b; cut = false }) d v
-bare-refused budget l o b s d v none is =
-    ran-whole budget l o b (record { status = s; bare = b; cut = false }) d v refl (omega arith) is (λ h. h)
+pub bare-refused : (budget : ℕ) (l : List ℕ) (b : Bare) (why : Refusal) (d v : List ℕ) → Refuses l (tiled b d v) why
+    → BareRan budget l (run_call budget l (tiled b d v)) b (record { part = Break (Err why); bare = b }) d v
+bare-refused budget l b why d v refuses =
+    ran-whole budget l (run_call budget l (tiled b d v)) b (Err why) b d v (omega (arith, refuses-steps l (tiled b d v) why refuses))
+    (refused-run budget l (tiled b d v) why refuses) (λ h. h)
 
 module _ (budget : ℕ) (l : List ℕ) (o : Outcome) (m₀ : Machine) (b₀ b : Bare) (d v : List ℕ) where
   -- an illegal entry within the budget
   pub running-broken : (k j : ℕ) (broken : Bool) (m : Machine) → Leaps l m (budget - k)
       (record { bare = b; steps = j; broken = broken }) (tiled b d v)
       → broken ≡ true → Running budget l o m₀ (k + j) (tiled b d v)
-      → BareRan budget l o b₀ (record { status = IllegalFetch (k + j); bare = b; cut = false }) d v
+      → BareRan budget l o b₀ (record { part = Break (Err (IllegalFetch (k + j))); bare = b }) d v
   running-broken k j broken m leaps t r =
       let e = b.engine in
       let stops = leaps.stops t in
       let rests = (chosen l b.active.cursor e.under_way Broken stops.1).resting in
-      ran-whole budget l o b₀ (record { status = IllegalFetch (k + j); bare = b; cut = false }) d v refl r.under
+      ran-whole budget l o b₀ (Err (IllegalFetch (k + j))) b d v r.under
       (running-stops budget l o m₀ (k + j) (tiled b d v) r Broken 9 (omega (arith, stops.0)) stops.1 (λ _. refl))
       (λ _. ap (λ u. u && tiles (command_in e)) rests)
 
@@ -372,7 +412,7 @@ module _ (budget : ℕ) (l : List ℕ) (o : Outcome) (m₀ : Machine) (b₀ b : 
   pub running-cut : (k j : ℕ) (broken : Bool) (m : Machine) → Leaps l m (budget - k) (record { bare = b; steps = j; broken = broken })
       (tiled b d v)
       → hatches b.engine ≡ true → Running budget l o m₀ (k + j) (tiled b d v)
-      → BareRan budget l o b₀ (record { status = Done (k + j); bare = b; cut = true }) d v
+      → BareRan budget l o b₀ (record { part = Continue (k + j); bare = b }) d v
   running-cut k j broken m leaps t r =
       let rest : budget - (k + j) ≡ budget - k - j = omega arith in
       record {
@@ -390,10 +430,10 @@ module _ (budget : ℕ) (l : List ℕ) (o : Outcome) (m₀ : Machine) (b₀ b : 
   -- the loop ends: the budget is spent, or no list is left
   pub running-over : (k : ℕ) → (ltb k budget && b.active.taken) ≡ false → Running budget l o m₀ k (tiled b d v)
       → (hatches b₀.engine ≡ false → hatches b.engine ≡ false)
-      → BareRan budget l o b₀ (record { status = Done k; bare = b; cut = false }) d v
+      → BareRan budget l o b₀ (record { part = Break (Ok k); bare = b }) d v
   unfolding run_of
   running-over k h r free =
-      ran-whole budget l o b₀ (record { status = Done k; bare = b; cut = false }) d v refl r.under
+      ran-whole budget l o b₀ (Ok k) b d v r.under
       (by_cases (ltb k budget)
       (λ t.
       let m = tiled b d v in
@@ -424,48 +464,70 @@ pub record Unheld (budget : ℕ) (l : List ℕ) (m : Machine) (j : ℕ) (n : Mac
   pub accepted : Accepted l n
   pub run : added j (run_call (budget - j) l n) ≡ run_call budget l m
 
-pub hatch-over : (budget : ℕ) (l : List ℕ) (m : Machine) (h : HatchAnswer) (d v : List ℕ) → HatchRan budget l m h d v → h.ended ≡ false
-    → (b : Bare) → b ≡ bare_of h.board → (j : ℕ) → j ≡ steps_in h.status → Unheld budget l m j (tiled b d v)
-hatch-over budget l m h d v ran e b p j q =
+pub hatch-over : (budget : ℕ) (l : List ℕ) (m : Machine) (h : HatchAnswer) (d v : List ℕ) → HatchRan budget l m h d v → (j : ℕ) → h.part ≡ Continue j
+    → (b : Bare) → b ≡ bare_of h.board → Unheld budget l m j (tiled b d v)
+hatch-over budget l m h d v ran j is b p =
+    let e : goes_on h.part ≡ true = ap goes_on is in
+    let q : j ≡ steps_in (status_in h.part) = sym (ap (λ part. steps_in (status_in part)) is) in
     let free = ran.free e in
     let at : machine h.board d v ≡ tiled b d v =
     ap (λ b. machine b d v) (untiled h.board d v free.0 free.1) ∙ ap (λ b. tiled b d v) (sym p) in
     subst (Unheld budget l m j) at
     (subst (λ j. Unheld budget l m j (machine h.board d v)) (sym q)
-    (record { few = ran.part.few; accepted = ran.part.accepted (ap not e); run = ran.part.rest (ap not e) }))
+    (record { few = ran.part.few; accepted = ran.part.accepted e; run = ran.part.rest e }))
+
+-- the held fill ends it
+pub fill-ends : (budget : ℕ) (l : List ℕ) (m : Machine) (h : HatchAnswer) (d v : List ℕ) → HatchRan budget l m h d v
+    → (status : Result ℕ Refusal) → h.part ≡ Break status → answered status (machine h.board d v) ≡ run_call budget l m
+fill-ends budget l m h d v ran status is =
+    ap (λ part. answered (status_in part) (machine h.board d v)) (sym is) ∙ ran.part.whole (ap goes_on is)
+
+-- the lists leave a fill
+pub lists-few : (budget : ℕ) (l : List ℕ) (o : Outcome) (b : Bare) (r : BareAnswer) (d v : List ℕ) → BareRan budget l o b r d v
+    → (k : ℕ) → r.part ≡ Continue k → k ≤ budget
+lists-few budget l o b r d v ran k is =
+    let e : steps_in (status_in r.part) ≡ k = ap (λ part. steps_in (status_in part)) is in omega (arith, ran.part.few)
 
 -- the lists end it
 pub lists-done : (budget : ℕ) (l : List ℕ) (o : Outcome) (b : Bare) (r : BareAnswer) (d v : List ℕ) → BareRan budget l o b r d v
-    → r.cut ≡ false
-    → (x : Board) → x ≡ tiled_board r.bare d v → answered r.status (machine x d v) ≡ o
-lists-done budget l o b r d v ran whole x p = ap (λ x. answered r.status (machine x d v)) p ∙ ran.part.whole whole
+    → (status : Result ℕ Refusal) → r.part ≡ Break status
+    → (x : Board) → x ≡ tiled_board r.bare d v → answered status (machine x d v) ≡ o
+lists-done budget l o b r d v ran status is x p =
+    ap (λ part. answered (status_in part) (machine x d v)) (sym is) ∙ ap (λ b. answered (status_in r.part) (machine b d v)) p
+    ∙ ran.part.whole (ap goes_on is)
 
 -- the last fill: k steps before it, and j of its own
 module _ (budget : ℕ) (l : List ℕ) (o : Outcome) (b : Bare) (r : BareAnswer) (d v : List ℕ) (ran : BareRan budget l o b r d v)
-    (cut : r.cut ≡ true) (x : Board)
-    (is-tiled : x ≡ tiled_board r.bare d v) (k : ℕ) (is-k : k ≡ steps_in r.status) (h : HatchAnswer) (d' v' : List ℕ)
+    (k : ℕ) (is : r.part ≡ Continue k) (x : Board)
+    (is-tiled : x ≡ tiled_board r.bare d v) (h : HatchAnswer) (d' v' : List ℕ)
     (last : HatchRan (budget - k) l (machine x d v) h d' v') where
   abbrev from : Machine
   from = machine x d v
 
+  more : goes_on r.part ≡ true
+  more = ap goes_on is
+
+  is-k : k ≡ steps_in (status_in r.part)
+  is-k = sym (ap (λ part. steps_in (status_in part)) is)
+
   from-tiled : tiled r.bare d v ≡ from
   from-tiled = ap (λ b. machine b d v) (sym is-tiled)
 
-  pub last-is : answered h.status (machine h.board d' v') ≡ run_call (budget - k) l from
+  pub last-is : answered (status_in h.part) (machine h.board d' v') ≡ run_call (budget - k) l from
   last-is =
-      last.cut (ap (λ (b : Board). hatches b.engine) is-tiled ∙ (ran.cut cut).0)
+      last.cut (ap (λ (b : Board). hatches b.engine) is-tiled ∙ (ran.cut more).0)
       (subst (λ (m : Machine). Cuts (budget - k) m.board) from-tiled (subst (λ k. Cuts (budget - k) (tiled_board r.bare d v))
-      (sym is-k) (ran.cut cut).1))
+      (sym is-k) (ran.cut more).1))
 
   pub last-run : added k (run_call (budget - k) l from) ≡ o
   last-run =
       ap (λ n. added k (run_call (budget - k) l n)) (sym from-tiled) ∙ ap (λ k. added k (run_call (budget - k) l (tiled r.bare d v))) is-k
-      ∙ ran.part.rest cut
+      ∙ ran.part.rest more
 
-  pub last_done : (j : ℕ) → j ≡ steps_in h.status → answered (Done (k + j)) (machine h.board d' v') ≡ o
+  pub last_done : (j : ℕ) → j ≡ steps_in (status_in h.part) → answered (Ok (k + j)) (machine h.board d' v') ≡ o
   last_done j is-j =
-      let number = last.done (subst (Accepted l) from-tiled (ran.part.accepted cut)) in
+      let number = last.done (subst (Accepted l) from-tiled (ran.part.accepted more)) in
       let place = ap (λ (o : Outcome). o.report.place) last-is ∙ run-no-place (budget - k) l from in
-      let steps : k + j ≡ steps_in h.status + k = omega arith in
+      let steps : k + j ≡ steps_in (status_in h.part) + k = omega arith in
       (λ i. record { report = report (sym number i) (sym place i) (steps i); after = machine h.board d' v' }) ∙ ap (added k) last-is
       ∙ last-run

@@ -1,4 +1,4 @@
--- What post, store and window write answer, from what the slots say.
+-- What make, post, store and window write answer, from what the slots say.
 -- Assumes nothing.
 use mathlib.Core.Path.{◌≡◌, refl, ap, sym, ◌∙◌}
 use mathlib.Core.Bool.{true, false, cond}
@@ -7,16 +7,20 @@ use Prim.Native.Nat.{ℕ, zero, suc, ◌+◌, ◌≤◌}
 use borrow.Author.Tests.{eq-eqb, ne_eqb}
 use lib.ListN.{length}
 use Rattle.lemmas.proofs.Booleans.{of_either}
-use Rattle.answers.specs.Reports.{Report}
+use Rattle.std.specs.Prelude.{Err}
+use Rattle.answers.specs.Reports.{Report, report, report_of}
+use Rattle.answers.specs.declared.Refusal.{Refusal}
+use Rattle.answers.specs.declared.Refusal.TheVariants.{WrongSize}
 use Rattle.lists.specs.declared.cursors.Next.{Next}
 use Rattle.lists.specs.declared.cursors.Next.TheVariants.{Ended, Visit, Take, Broken}
-use Rattle.slots.specs.Slots.{lent_ok, slot_of}
+use Rattle.slots.specs.Slots.{sizes_ok, sizes, lent_ok, slot_of}
+use Rattle.slots.specs.declared.record.Sizes.{Sizes}
 use Rattle.slots.specs.Calls.{post_report, Lent, store_report, write_report}
 use Rattle.slots.proofs.Grounds.{NumberAlone, post-fits, post_steps, store-number, write-number}
 use Rattle.board.specs.Record.{well_formed}
 use Rattle.board.specs.Steps.{Machine, next_on, step_of}
 use Rattle.board.specs.Runs.{Outcome, by_next, run_of, run_call}
-use Rattle.board.specs.Calls.{Reply, answered, posted_of, post_by, post_call, Written, kept, kept_by, store_call, write_call}
+use Rattle.board.specs.Calls.{Reply, fresh_board, make_call, answered, posted_of, post_by, post_call, Written, kept, kept_by, store_call, write_call}
 use Rattle.board.specs.declared.record.Board.{Board}
 
 module _ (l : List ℕ) (start count : ℕ) (b : Board) where
@@ -41,6 +45,27 @@ module _ (l : List ℕ) (start count : ℕ) (b : Board) where
 
     pub post-room : t.number ≡ 0 → start + count ≤ b.sizes.entries
     post-room n = post-fits b.sizes (slot_of b.active) b.pending l start count (sym (ap (λ t. t.number) e) ∙ n)
+
+  pub post-accepted : well_formed b ≡ true → (k : ℕ)
+      → report 0 0 k ≡ post_report b.sizes (slot_of b.active) b.pending l start count → (c : Board) → c ≡ posted_of b start count
+      → (record { report = report 0 0 0; board = c }) ≡ post_call l start count b
+  post-accepted w k e c q =
+      let none : k ≡ 0 = ap (λ (t : Report). t.steps) e ∙ post_steps b.sizes (slot_of b.active) b.pending l start count in
+      (λ i. record { report = report 0 0 (sym none i); board = c }) ∙ post-done w (report 0 0 k) e refl c q
+
+-- ---- make
+module _ (width height entries : ℕ) where
+  pub make-done : (z : Sizes) (b : Board) → z ≡ sizes width height entries → sizes_ok z ≡ true → b ≡ fresh_board z
+      → (record { report = report 0 0 0; board = b }) ≡ make_call width height entries
+  unfolding make_call
+  make-done z b e ok q =
+      rw (ap sizes_ok (sym e) ∙ ok) (ap (answered 0 0) (q ∙ ap fresh_board e))
+
+  pub make-refused : (why : Refusal) (b : Board) → why ≡ WrongSize → sizes_ok (sizes width height entries) ≡ false
+      → b ≡ fresh_board (sizes 1 1 1) → (record { report = report_of (Err why); board = b }) ≡ make_call width height entries
+  unfolding make_call
+  make-refused why b e ok q =
+      rw ok (ap (λ why. record { report = report_of (Err why); board = b }) e ∙ ap (answered 2 0) q)
 
 module _ (l : List ℕ) (first : ℕ) (bytes : List ℕ) (b : Board) where
   pub store-malformed : well_formed b ≡ false → kept 1 b l ≡ store_call l first bytes b

@@ -12,6 +12,7 @@ use Rattle.lemmas.specs.Turns.{in_turn}
 use Rattle.lemmas.proofs.Booleans.{by_cases, and_left, and_right, and-true, both, second-of}
 use Rattle.geometry.specs.declared.Extent.{Extent}
 use Rattle.entries.specs.Fields.{command_of, is_blit}
+use Rattle.entries.proofs.Registers.{blit-no-line}
 use Rattle.entries.specs.declared.fields.Command.{Command}
 use Rattle.registers.specs.States.{state_ok}
 use Rattle.registers.specs.declared.file.Registers.{Registers}
@@ -136,8 +137,7 @@ hatch-sound budget extent s k e d v done h ok =
 
 blit-no-dash : (c : Command) → tiles c ≡ true → in_dashes c ≡ false
 blit-no-dash c h =
-    let one : c.opcode ≡ 1 = eqb-true c.opcode 1 (and_left (is_blit c) c.apat h) in
-    ap (λ n. (eqb n 2 || eqb n 5) && not c.solid) one
+    ap (λ t. t && not c.solid) (blit-no-line c (and_left (is_blit c) c.apat h))
 
 record Still (e : Engine) (c : Cursor) (r : Reached) : Type 0 where
   cursor-same : r.cursor ≡ c

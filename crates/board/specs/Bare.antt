@@ -1,8 +1,11 @@
 -- A board record without a tile, and runs in parts: how the code runs a board. What a run is stands in Runs; nothing here is needed
 -- to read that.
-use Rattle.std.specs.Prelude.{◌≡◌, Bool, true, false, not, List, ℕ, ◌-◌, ◌≤◌, ◌<◌, length}
-use Rattle.answers.specs.Reports.{report_of}
-use Rattle.answers.specs.declared.Status.{Status}
+use Rattle.std.specs.Prelude.{◌≡◌, ◌⊎◌, Bool, true, false, List, ℕ, ◌-◌, ◌≤◌, ◌<◌, length, Result, Ok, MatchResult}
+use Rattle.std.specs.declared.ops.ControlFlow.{ControlFlow}
+use Rattle.std.specs.declared.ops.ControlFlow.TheVariants.{Continue, Break}
+use Rattle.answers.specs.Reports.{report_of, status_in, goes_on}
+use Rattle.answers.specs.declared.Refusal.{Refusal}
+use Rattle.answers.specs.declared.Refusal.TheVariants.{Malformed, WrongSize}
 use Rattle.tiles.specs.Tiles.{no_fill}
 use Rattle.lists.specs.declared.cursors.Next.TheVariants.{Broken}
 use Rattle.commands.specs.Hatching.{hatches, fill_taken}
@@ -40,6 +43,14 @@ Accepted l m =
     (well_formed m.board ≡ true)
     × (lent_ok m.board.sizes (length l) (length m.display) (length m.virt) ≡ true)
 
+-- Whether a run is not refused, with lent memories of these lengths; else the lowest number.
+abbrev pub Accepts : ℕ → ℕ → ℕ → Board → Result (Unit {0}) Refusal → Type 0
+Accepts list display virt b r =
+    MatchResult r (λ _. (well_formed b ≡ true) × (lent_ok b.sizes list display virt ≡ true))
+    (λ e.
+    ((e ≡ Malformed) × (well_formed b ≡ false))
+    ⊎ ((e ≡ WrongSize) × (well_formed b ≡ true) × (lent_ok b.sizes list display virt ≡ false)))
+
 -- The visits left of a command are more than a budget.
 abbrev pub Cuts : ℕ → Board → Type 0
 Cuts budget b = budget < left_in b.sizes.extent b.engine
@@ -54,14 +65,14 @@ pub record Leaps (l : List ℕ) (m : Machine) (budget : ℕ) (r : Leap) (n : Mac
   pub stops : r.broken ≡ true → (r.steps < budget) × (next_on l n.board ≡ Broken)
   pub cut : hatches n.board.engine ≡ true → Cuts (budget - r.steps) n.board
 
-abbrev pub steps_in : Status → ℕ
+abbrev pub steps_in : Result ℕ Refusal → ℕ
 steps_in s = (report_of s).steps
 
-abbrev pub answered : Status → Machine → Outcome
+abbrev pub answered : Result ℕ Refusal → Machine → Outcome
 answered s n = record { report = report_of s; after = n }
 
 -- A part of a run that comes to o: all of it, or its steps up to n, with more to come.
-pub record PartRan (budget : ℕ) (l : List ℕ) (o : Outcome) (s : Status) (more : Bool) (n : Machine) : Type 0 where
+pub record PartRan (budget : ℕ) (l : List ℕ) (o : Outcome) (s : Result ℕ Refusal) (more : Bool) (n : Machine) : Type 0 where
   pub few : steps_in s ≤ budget
   pub whole : more ≡ false → answered s n ≡ o
   pub rest : more ≡ true → added (steps_in s) (run_call (budget - steps_in s) l n) ≡ o
@@ -69,14 +80,20 @@ pub record PartRan (budget : ℕ) (l : List ℕ) (o : Outcome) (s : Status) (mor
 
 -- Of the record b with no tile held: all, with no fill begun that is left, or up to a fill with a tile that the budget cuts.
 pub record BareRan (budget : ℕ) (l : List ℕ) (o : Outcome) (b : Bare) (r : BareAnswer) (d v : List ℕ) : Type 0 where
-  pub part : PartRan budget l o r.status r.cut (tiled r.bare d v)
-  pub free : r.cut ≡ false → hatches b.engine ≡ false → hatches r.bare.engine ≡ false
-  pub cut : r.cut ≡ true
-      → (hatches r.bare.engine ≡ true) × Cuts (budget - steps_in r.status) (tiled_board r.bare d v)
+  pub part : PartRan budget l o (status_in r.part) (goes_on r.part) (tiled r.bare d v)
+  pub free : goes_on r.part ≡ false → hatches b.engine ≡ false → hatches r.bare.engine ≡ false
+  pub cut : goes_on r.part ≡ true
+      → (hatches r.bare.engine ≡ true) × Cuts (budget - steps_in (status_in r.part)) (tiled_board r.bare d v)
+
+-- The run ends with the steps of a fill where it is under way still, for want of budget, and else goes on.
+abbrev pub part_by : Bool → ℕ → ControlFlow (Result ℕ Refusal) ℕ
+part_by true steps = Break (Ok steps)
+part_by false steps = Continue steps
 
 -- The steps of a held fill: with them the run has ended, or no tile is held any more.
 pub record HatchRan (budget : ℕ) (l : List ℕ) (m : Machine) (r : HatchAnswer) (d v : List ℕ) : Type 0 where
-  pub part : PartRan budget l (run_call budget l m) r.status (not r.ended) (machine r.board d v)
-  pub free : r.ended ≡ false → (hatches r.board.engine ≡ false) × (r.board.fill ≡ no_fill)
-  pub cut : hatches m.board.engine ≡ true → Cuts budget m.board → answered r.status (machine r.board d v) ≡ run_call budget l m
-  pub done : Accepted l m → (report_of r.status).number ≡ 0
+  pub part : PartRan budget l (run_call budget l m) (status_in r.part) (goes_on r.part) (machine r.board d v)
+  pub free : goes_on r.part ≡ true → (hatches r.board.engine ≡ false) × (r.board.fill ≡ no_fill)
+  pub cut : hatches m.board.engine ≡ true → Cuts budget m.board
+      → answered (status_in r.part) (machine r.board d v) ≡ run_call budget l m
+  pub done : Accepted l m → (report_of (status_in r.part)).number ≡ 0

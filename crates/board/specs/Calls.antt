@@ -1,10 +1,11 @@
 -- The calls make, post, store and window write (01, What the engine has, and What the host hears).
-use Rattle.std.specs.Prelude.{cond, List, ℕ, eqb}
+use Rattle.std.specs.Prelude.{cond, List, ℕ, eqb, Result, Ok, Err}
 use Rattle.tiles.specs.Tiles.{no_fill}
 use Rattle.commands.specs.Steps.{fresh_engine}
 use Rattle.answers.specs.Reports.{Report, report, report_of}
+use Rattle.answers.specs.declared.Refusal.{Refusal}
 use Rattle.lists.specs.Spans.{span_of}
-use Rattle.slots.specs.Slots.{sizes_ok, slot_with, empty_slot, active_on, slot_of}
+use Rattle.slots.specs.Slots.{sizes_ok, sizes, slot_with, empty_slot, active_on, slot_of}
 use Rattle.slots.specs.Calls.{post_report, Lent, store_report, write_report}
 use Rattle.slots.specs.declared.record.Sizes.{Sizes}
 use Rattle.board.specs.Record.{well_formed}
@@ -19,15 +20,17 @@ pub record Reply : Type 0 where
 abbrev pub reply : Answer → Reply
 reply a = record { report = report_of a.status; board = a.board }
 
+-- Of a call that leaves this record, or refuses and hands back the one that it was given.
+abbrev pub replied : Board → Result Board Refusal → Reply
+replied given (Ok after) = record { report = report 0 0 0; board = after }
+replied given (Err refusal) = record { report = report_of (Err refusal); board = given }
+
 abbrev pub answered : ℕ → ℕ → Board → Reply
 answered number place b = record { report = report number place 0; board = b }
 
 -- Fresh: "slots empty", the engine's fresh values, and no fill (02, R-7).
 abbrev pub fresh_board : Sizes → Board
 fresh_board z = record { sizes = z; active = active_on empty_slot; pending = empty_slot; engine = fresh_engine; fill = no_fill }
-
-abbrev pub sizes : ℕ → ℕ → ℕ → Sizes
-sizes width height entries = record { extent = record { width = width; height = height }; entries = entries }
 
 -- "Make: 2, returning then the fresh 1 by 1 board with 1 entry."
 unfoldable pub make_call : ℕ → ℕ → ℕ → Reply
@@ -57,8 +60,11 @@ pub record Written : Type 0 where
   pub board : Board
   pub memory : List ℕ
 
+abbrev pub stays : Board → Result ℕ Refusal → List ℕ → Written
+stays b status memory = record { report = report_of status; board = b; memory = memory }
+
 abbrev pub written : Answer → List ℕ → Written
-written a memory = record { report = report_of a.status; board = a.board; memory = memory }
+written a memory = stays a.board a.status memory
 
 abbrev pub kept : ℕ → Board → List ℕ → Written
 kept number b memory = record { report = report number 0 0; board = b; memory = memory }

@@ -1,8 +1,9 @@
 -- The call feed (02, R-5), pieces fed one after another, and what holds of them.
-use Rattle.std.specs.Prelude.{◌≡◌, Bool, true, false, cond, ◌&&◌, List, [], ◌∷◌, ◌++◌, ℕ, ◌<◌, eqb}
+use Rattle.std.specs.Prelude.{◌≡◌, Bool, true, false, cond, ◌&&◌, List, [], ◌∷◌, ◌++◌, ℕ, ◌<◌, eqb, Result}
 use Rattle.answers.specs.Reports.{Report, report, report_of}
 use Rattle.slots.specs.Slots.{slot_of}
-use Rattle.feeds.specs.Feeds.{LentFeed, start_at, joined, completed, feed_report}
+use Rattle.answers.specs.declared.Refusal.{Refusal}
+use Rattle.feeds.specs.Feeds.{LentFeed, start_at, joined, completed, lent_feed, feed_report}
 use Rattle.feeds.specs.declared.Feed.{Feed}
 use Rattle.board.specs.Record.{well_formed}
 use Rattle.board.specs.Calls.{kept, store_call}
@@ -28,6 +29,9 @@ feed_reply a memory = record { report = report_of a.status; after = line a.board
 -- The board record stays whether the piece is accepted or refused.
 abbrev pub handed : Board → LentFeed → FeedReply
 handed b r = record { report = r.report; after = line b r.feed r.memory }
+
+abbrev pub fed : Board → Feed → Result Feed Refusal → List ℕ → FeedReply
+fed b given after memory = handed b (lent_feed given after memory)
 
 -- "1 for a malformed board record or a bad feed record"; then what the slots say.
 unfoldable pub feed_call : List ℕ → Feed → List ℕ → Board → FeedReply

@@ -1,8 +1,9 @@
 -- The calls export and import (02, R-9).
-use Rattle.std.specs.Prelude.{◌≡◌, false, cond, List, ℕ, length, take}
-use Rattle.answers.specs.Reports.{Report, report, report_of}
+use Rattle.std.specs.Prelude.{◌≡◌, false, cond, List, ℕ, length, take, Result}
+use Rattle.answers.specs.Reports.{Report, report}
+use Rattle.answers.specs.declared.Refusal.{Refusal}
 use Rattle.slots.specs.Slots.{slot_of}
-use Rattle.slots.specs.Picturing.{Exporting, export_report, import_report}
+use Rattle.slots.specs.Picturing.{Exporting, exporting, export_report, import_report}
 use Rattle.board.specs.Record.{well_formed}
 use Rattle.board.specs.Calls.{Written, kept, kept_by}
 use Rattle.board.specs.declared.record.Board.{Board}
@@ -15,12 +16,15 @@ pub record Exported : Type 0 where
   pub written : ℕ
   pub output : List ℕ
 
-abbrev pub exported : ExportAnswer → List ℕ → Exported
-exported a output = record { report = report_of a.status; board = a.board; written = a.written; output = output }
-
 -- The record stays whether the call is done or refused.
 abbrev pub exported_by : Board → Exporting → Exported
 exported_by b x = record { report = x.report; board = b; written = x.written; output = x.output }
+
+abbrev pub exported_as : Board → Result ℕ Refusal → List ℕ → Exported
+exported_as b written output = exported_by b (exporting written output)
+
+abbrev pub exported : ExportAnswer → List ℕ → Exported
+exported a output = exported_as a.board a.written output
 
 -- The lowest number wins: a malformed record, then what the sizes say. It is allowed while slots are taken.
 unfoldable pub export_call : ℕ → List ℕ → List ℕ → Board → Exported

@@ -1,6 +1,9 @@
 // What a call answers.
+ghost use Rattle.std.specs.Prelude.{◌≡◌};
+ghost use Rattle.board.specs.Calls.{reply, replied};
+
 use crate::record::Board;
-use answers::Status;
+use answers::{Refusal, Status};
 use feeds::Feed;
 
 // The outcome, and the record that is handed back.
@@ -11,6 +14,7 @@ pub struct Answer {
 }
 
 // The outcome of a feed, and both records.
+// Kept: the feed record beside the status, since a refusal hands both records back as given (`RefusedFeed`).
 #[derive(Clone, Copy)]
 pub struct FeedAnswer {
     pub status: Status,
@@ -18,10 +22,27 @@ pub struct FeedAnswer {
     pub feed: Feed,
 }
 
-// The outcome of an export, the record, and the bytes written.
+// The bytes that an export wrote, or why it is refused, and the record.
 #[derive(Clone, Copy)]
 pub struct ExportAnswer {
-    pub status: Status,
+    pub written: Result<usize, Refusal>,
     pub board: Board,
-    pub written: usize,
+}
+
+impl Board {
+    // The record that a call leaves, or this one with a refusal.
+    pub(crate) fn answer(self, after: Result<Board, Refusal>) -> Answer
+        ensures { reply result ≡ replied self after }
+    {
+        match after {
+            Ok(board) => Answer {
+                status: Ok(0),
+                board,
+            },
+            Err(refusal) => Answer {
+                status: Err(refusal),
+                board: self,
+            },
+        }
+    }
 }

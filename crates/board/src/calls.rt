@@ -1,15 +1,24 @@
 // The calls make, post, store and window write.
 ghost use Rattle.std.specs.Prelude.{◌≡◌};
-ghost use Rattle.board.specs.Calls.{reply, fresh_board, make_call, posted_of, post_call, written, store_call, write_call};
+ghost use Rattle.board.specs.Calls.{reply, replied, fresh_board, make_call, posted_of, post_call, stays, written, store_call, write_call};
 
 use crate::answer::Answer;
 use crate::record::Board;
-use answers::Status;
+use answers::{Refusal, Status};
 use commands::Engine;
 use geometry::Extent;
 use lists::Span;
 use slots::{Active, Sizes, Slot, post_status, store_into, write_into};
 use tiles::no_fill;
+
+// The board that a refused make hands back.
+const SMALLEST: Sizes = Sizes {
+    extent: Extent {
+        width: 1,
+        height: 1,
+    },
+    entries: 1,
+};
 
 impl Board {
     fn fresh(z: Sizes) -> Board
@@ -32,109 +41,97 @@ impl Board {
     pub fn make(width: usize, height: usize, entries: usize) -> Answer
         ensures { reply result ≡ make_call width height entries }
     {
-        if (1 <= width)
-            & (width <= 2048)
-            & (1 <= height)
-            & (height <= 2048)
-            & (1 <= entries)
-            & (entries <= 4096)
-        {
-            return Answer {
-                status: Status::Done(0),
-                board: Board::fresh(Sizes {
-                    extent: Extent {
-                        width: width as u32,
-                        height: height as u32,
-                    },
-                    entries: entries as u32,
-                }),
-            };
-        }
-        Answer {
-            status: Status::WrongSize,
-            board: Board::fresh(Sizes {
-                extent: Extent {
-                    width: 1,
-                    height: 1,
-                },
-                entries: 1,
-            }),
+        match Sizes::new(width, height, entries) {
+            Ok(sizes) => Answer {
+                status: Ok(0),
+                board: Board::fresh(sizes),
+            },
+            Err(refusal) => Answer {
+                status: Err(refusal),
+                board: Board::fresh(SMALLEST),
+            },
         }
     }
 
     fn posted(self, start: u32, count: u32) -> Board
         ensures { result ≡ posted_of self start count }
     {
-        let z = self.sizes;
-        let a = self.active;
-        let p = self.pending;
-        let e = self.engine;
-        let f = self.fill;
         let list = Slot {
             taken: true,
             span: Span { start, count },
         };
-        if a.taken {
+        if self.active.taken {
             return Board {
-                sizes: z,
-                active: a,
                 pending: list,
-                engine: e,
-                fill: f,
+                ..self
             };
         }
         Board {
-            sizes: z,
             active: Active::on(list),
-            pending: p,
-            engine: e,
-            fill: f,
+            ..self
         }
+    }
+
+    // The record after a post.
+    fn after_post(self, list: &[u8], start: usize, count: usize) -> Result<Board, Refusal>
+        ensures { replied self result ≡ post_call list.now start count self }
+    {
+        self.checked()?;
+        post_status(
+            self.sizes,
+            self.active.slot(),
+            self.pending,
+            list,
+            start,
+            count,
+        )?;
+        Ok(self.posted(start as u32, count as u32))
     }
 
     // A list of `count` entries from `start` on is posted.
     pub fn post(self, list: &[u8], start: usize, count: usize) -> Answer
         ensures { reply result ≡ post_call list.now start count self }
     {
-        let z = self.sizes;
-        let a = self.active;
-        let p = self.pending;
-        if !self.well_formed() {
-            return Answer {
-                status: Status::Malformed,
-                board: self,
-            };
-        }
-        let status = post_status(z, a.slot(), p, list, start, count);
-        if status.number() != 0 {
-            return Answer {
-                status,
-                board: self,
-            };
-        }
-        Answer {
-            status,
-            board: self.posted(start as u32, count as u32),
-        }
+        self.answer(self.after_post(list, start, count))
+    }
+
+    fn store_status(self, list: &mut [u8], first: usize, bytes: &[u8]) -> Status
+        ensures { stays self result list.new ≡ store_call list.old first bytes.now self }
+    {
+        self.checked()?;
+        store_into(
+            self.sizes,
+            self.active.slot(),
+            self.pending,
+            list,
+            first,
+            bytes,
+        )
     }
 
     // Bytes are stored into list memory from an entry on.
     pub fn store(self, list: &mut [u8], first: usize, bytes: &[u8]) -> Answer
         ensures { written result list.new ≡ store_call list.old first bytes.now self }
     {
-        let z = self.sizes;
-        let a = self.active;
-        let p = self.pending;
-        if !self.well_formed() {
-            return Answer {
-                status: Status::Malformed,
-                board: self,
-            };
-        }
         Answer {
-            status: store_into(z, a.slot(), p, list, first, bytes),
+            status: self.store_status(list, first, bytes),
             board: self,
         }
+    }
+
+    fn write_status(self, number: usize, offset: usize, bytes: &[u8], buffer: &mut [u8]) -> Status
+        ensures { stays self result buffer.new ≡ write_call number offset bytes.now buffer.old self }
+    {
+        self.checked()?;
+        write_into(
+            self.sizes,
+            self.active.slot(),
+            self.pending,
+            number,
+            offset,
+            bytes,
+            buffer,
+        )
     }
 
     // Bytes are written into the display (0) or the virtual buffer (1), from an offset on.
@@ -147,17 +144,8 @@ impl Board {
     ) -> Answer
         ensures { written result buffer.new ≡ write_call number offset bytes.now buffer.old self }
     {
-        let z = self.sizes;
-        let a = self.active;
-        let p = self.pending;
-        if !self.well_formed() {
-            return Answer {
-                status: Status::Malformed,
-                board: self,
-            };
-        }
         Answer {
-            status: write_into(z, a.slot(), p, number, offset, bytes, buffer),
+            status: self.write_status(number, offset, bytes, buffer),
             board: self,
         }
     }

@@ -13,24 +13,16 @@ impl Board {
     pub(crate) fn settled(self) -> Board
         ensures { result ≡ settled_of self }
     {
-        let z = self.sizes;
-        let a = self.active;
-        let c = a.cursor;
-        let p = self.pending;
-        let e = self.engine;
-        let f = self.fill;
-        if !c.ended(e.under_way) {
+        if !self.active.cursor.ended(self.engine.under_way) {
             return self;
         }
         Board {
-            sizes: z,
-            active: Active::on(p),
+            active: Active::on(self.pending),
             pending: Slot {
                 taken: false,
                 span: Span { start: 0, count: 0 },
             },
-            engine: e,
-            fill: f,
+            ..self
         }
     }
 
@@ -38,18 +30,14 @@ impl Board {
     pub(crate) fn moved(self, cursor: Cursor, engine: Engine, fill: Fill) -> Board
         ensures { result ≡ settled_of (with_steps self cursor engine fill) }
     {
-        let z = self.sizes;
-        let a = self.active;
-        let p = self.pending;
         let b = Board {
-            sizes: z,
             active: Active {
-                taken: a.taken,
                 cursor,
+                ..self.active
             },
-            pending: p,
             engine,
             fill,
+            ..self
         };
         b.settled()
     }

@@ -1,45 +1,18 @@
--- The tile that an entry takes, by the tests that it passes; and that what is held is what a record may hold, after every entry and
--- every visit.
+-- What is held is what a record may hold, after every entry and every visit.
 -- Assumes nothing.
-use mathlib.Core.Path.{◌≡◌, refl, ap, ap₂, sym, ◌∙◌}
+use mathlib.Core.Path.{◌≡◌, refl, ◌∙◌}
 use mathlib.Core.Bool.{Bool, true, false, cond, ◌&&◌}
-use mathlib.Core.List.{List}
-use Prim.Native.Nat.{ℕ}
 use Rattle.lemmas.specs.Turns.{in_turn}
-use Rattle.lemmas.proofs.Booleans.{first_of, second-of}
-use Rattle.geometry.specs.declared.Extent.{Extent}
-use Rattle.entries.specs.declared.fields.Command.{Command}
+use Rattle.lemmas.proofs.Booleans.{second-of}
 use Rattle.tiles.specs.Tiles.{whole_at, no_fill, filled_with, fill_of, is_none}
 use Rattle.tiles.specs.declared.Fill.{Fill}
 use Rattle.tiles.specs.declared.Tile.{Tile}
 use Rattle.tiles.proofs.Pixels.{none-is-no-fill}
 use Rattle.commands.specs.Visits.{command_in, shows}
-use Rattle.commands.specs.Hatching.{tiles, hatches, fill_taken}
+use Rattle.commands.specs.Hatching.{tiles}
 use Rattle.commands.specs.Steps.{advanced_of, visit_by, taken_of}
-use Rattle.commands.specs.Record.{holds_tile, fill_ok, NoFillElsewhere, VisitsKeepFill, EntriesKeepFill}
-use Rattle.commands.specs.declared.Engine.{Engine}
+use Rattle.commands.specs.Record.{holds_tile, NoFillElsewhere, VisitsKeepFill, EntriesKeepFill}
 use Rattle.commands.proofs.Visiting.{advanced-registers}
-
--- what an entry takes
-module _ (extent : Extent) (e : Engine) (d v : List ℕ) where
-  abbrev tile : Fill
-  tile = fill_of extent e.registers.xy0 (cond (command_in e).from_virtual v d)
-
-  pub takes_none : hatches e ≡ false → (r : Fill) → r ≡ no_fill → r ≡ fill_taken extent e d v
-  takes_none h r p = p ∙ second-of (hatches e) tile no_fill h
-
-  pub takes-tile : hatches e ≡ true → (c : Command) → c ≡ command_in e → (b : Bool) → c.from_virtual ≡ b → (r : Fill)
-      → r ≡ fill_of extent e.registers.xy0 (cond b v d) → r ≡ fill_taken extent e d v
-  takes-tile h c p b q r s =
-      s ∙ ap (λ t. fill_of extent e.registers.xy0 (cond t v d)) (sym q ∙ ap (λ (c : Command). c.from_virtual) p) ∙ first_of (hatches e) tile no_fill h
-
--- what a record may hold
-module _ (extent : Extent) (e : Engine) (f : Fill) (t u : Bool) (p : t ≡ hatches e) (q : u ≡ whole_at extent e.registers.xy0) where
-  pub ok-tile : (t && u) ≡ true → f.whole ≡ fill_ok extent e f
-  ok-tile h = first_of (holds_tile extent e) f.whole (is_none f) (sym (ap₂ ◌&&◌ p q) ∙ h)
-
-  pub ok-none : (t && u) ≡ false → is_none f ≡ fill_ok extent e f
-  ok-none h = second-of (holds_tile extent e) f.whole (is_none f) (sym (ap₂ ◌&&◌ p q) ∙ h)
 
 pub no-fill-elsewhere : NoFillElsewhere
 no-fill-elsewhere extent e f sized ok h =

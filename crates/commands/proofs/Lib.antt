@@ -1,6 +1,5 @@
 pub mod Shown
 pub mod Tests
-pub mod Marks
 pub mod Bounds
 pub mod Triggers
 pub mod Visiting

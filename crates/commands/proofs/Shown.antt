@@ -1,5 +1,6 @@
 -- The cells that a blit visits are the visible ones of its rectangle.
 -- Assumes nothing.
+use Rattle.std.specs.Prelude.{Option, Some, None}
 use mathlib.Core.Path.{◌≡◌, refl, ap, sym, ◌∙◌}
 use Prim.Native.Nat.{ℕ, ◌≤◌}
 use native.Mathlib.Omega.{arith}
@@ -12,7 +13,6 @@ use Rattle.geometry.specs.Coordinates.{point_of}
 use Rattle.geometry.specs.Blit.{blit_count, blit_cells, blit_cell, cell_point}
 use Rattle.geometry.specs.Visible.{cell_shows, visible_count, visible_cell, visible_cells}
 use Rattle.geometry.specs.declared.Cell.{Cell}
-use Rattle.geometry.specs.declared.Cell.TheVariants.{At as CellAt, Past as CellPast}
 use Rattle.geometry.specs.declared.Extent.{Extent}
 use Rattle.geometry.proofs.Blits.{cell-past}
 use Rattle.geometry.proofs.Windows.{window-lets-through}
@@ -23,11 +23,11 @@ use Rattle.commands.specs.Visits.{window_in, shows, cells_by}
 use Rattle.commands.specs.Shown.{ShownCells}
 
 module _ (extent : Extent) (g : Registers) where
-  cell-lets-through : (cell : Cell) → cell_shows (window_in extent g) (point_of g.xy1) g.xy3 cell ≡ shows extent g cell
+  cell-lets-through : (cell : Option Cell) → cell_shows (window_in extent g) (point_of g.xy1) g.xy3 cell ≡ shows extent g cell
   unfolding shows
-  cell-lets-through (CellAt column row) =
-      window-lets-through extent (command_of g.cmd).clip g.clptl g.clpbr (cell_point (point_of g.xy1) g.xy3 column row)
-  cell-lets-through CellPast = refl
+  cell-lets-through (Some c) =
+      window-lets-through extent (command_of g.cmd).clip g.clptl g.clpbr (cell_point (point_of g.xy1) g.xy3 c.column c.row)
+  cell-lets-through None = refl
 
 pub shown-cells : ShownCells
 shown-cells extent g =
@@ -37,7 +37,7 @@ shown-cells extent g =
     (blit_cells g.xy2)
 
 module _ (extent : Extent) (g : Registers) where
-  abbrev cell : ℕ → Cell
+  abbrev cell : ℕ → Option Cell
   cell k = visible_cell (point_of g.xy1) g.xy2 g.xy3 (window_in extent g) k
 
   abbrev count : ℕ
@@ -47,17 +47,17 @@ module _ (extent : Extent) (g : Registers) where
   shown-count = sym (map-below-length cell count) ∙ ap length (shown-cells extent g)
 
   -- past the last there is none
-  none-past : (k : ℕ) → count ≤ k → CellPast ≡ cell k
+  none-past : (k : ℕ) → count ≤ k → None ≡ cell k
   none-past k h =
       cell-past g.xy2 (blit_count g.xy2) (omega arith)
       ∙ ap (blit_cell g.xy2) (index-past (point_of g.xy1) g.xy2 g.xy3 (window_in extent g) k _ refl h)
 
-  at-list : (k : ℕ) → cell k ≡ get_or (visible_cells (point_of g.xy1) g.xy2 g.xy3 (window_in extent g)) k CellPast
+  at-list : (k : ℕ) → cell k ≡ get_or (visible_cells (point_of g.xy1) g.xy2 g.xy3 (window_in extent g)) k None
   at-list k =
-      by_cases (ltb k count) (λ t. sym (map-below-at cell count CellPast k (ltb-true k count t)))
+      by_cases (ltb k count) (λ t. sym (map-below-at cell count None k (ltb-true k count t)))
       (λ t.
       let h = ltb-false k count t in
-      sym (map-below-past cell count CellPast k h ∙ none-past k h))
+      sym (map-below-past cell count None k h ∙ none-past k h))
 
-  pub shown-cell : (k : ℕ) → cell k ≡ get_or (cells_by shows extent g) k CellPast
-  shown-cell k = at-list k ∙ ap (λ l. get_or l k CellPast) (shown-cells extent g)
+  pub shown-cell : (k : ℕ) → cell k ≡ get_or (cells_by shows extent g) k None
+  shown-cell k = at-list k ∙ ap (λ l. get_or l k None) (shown-cells extent g)

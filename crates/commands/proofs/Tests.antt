@@ -1,31 +1,23 @@
--- What a command's decoded fields say of the definitions: the kind, the visit and the clip.
+-- What a command's decoded fields say of the definitions: the kind and the visit.
 -- Assumes nothing.
+use Rattle.std.specs.Prelude.{Option, None}
 use mathlib.Core.Path.{◌≡◌, ap, ap₂, sym, ◌∙◌}
-use mathlib.Core.Bool.{Bool, true, false, not, cond, ◌&&◌, ◌||◌, false≢true}
+use mathlib.Core.Bool.{Bool, true, false, cond, ◌||◌, false≢true}
 use mathlib.Core.List.{List}
 use Prim.Native.Nat.{ℕ}
-use lib.Dec.{eqb, ltb}
+use lib.Dec.{ltb}
 use lib.ListN.{length, get_or}
 use Rattle.lemmas.proofs.Booleans.{by_cases, first_of, second-of}
 use Rattle.geometry.specs.Coordinates.{point_of}
-use Rattle.geometry.specs.Clip.{rect_of, in_rect, place_of}
 use Rattle.geometry.specs.Line.{line_count, line_visit}
 use Rattle.geometry.specs.Blit.{cell_visit}
 use Rattle.geometry.specs.Visible.{visible_count, visible_cell}
 use Rattle.geometry.specs.declared.Cell.{Cell}
-use Rattle.geometry.specs.declared.Cell.TheVariants.{Past as CellPast}
 use Rattle.geometry.specs.declared.Extent.{Extent}
 use Rattle.geometry.specs.declared.Point.{Point}
-use Rattle.geometry.specs.declared.Rect.{Rect}
-use Rattle.geometry.specs.declared.Place.{Place}
-use Rattle.geometry.specs.declared.Place.TheVariants.{Outside}
-use Rattle.geometry.specs.declared.Visit.{Visit}
-use Rattle.geometry.specs.declared.Visit.TheVariants.{At as VisitAt, Past}
-use Rattle.entries.specs.Fields.{is_blit, is_line, draws, is_trigger}
+use Rattle.entries.specs.Fields.{is_blit, is_line, draws}
 use Rattle.entries.specs.declared.fields.Command.{Command}
-use Rattle.registers.specs.declared.file.Registers.{Registers}
-use Rattle.commands.specs.Visits.{command_in, line_start, clipped_out, window_in, shows, cells_by, count_by, count_of, cell_by, cell_at, position_of, through_to, target_from}
-use Rattle.commands.specs.Steps.{in_dashes, sets_pattern}
+use Rattle.commands.specs.Visits.{command_in, line_start, window_in, shows, cells_by, count_by, count_of, cell_by, cell_at, position_of}
 use Rattle.commands.specs.declared.Engine.{Engine}
 use Rattle.commands.proofs.Shown.{shown-count, shown-cell}
 
@@ -38,27 +30,13 @@ module _ (e : Engine) (c : Command) (p : c ≡ command_in e) where
   pub test-is : (f : Command → Bool) (t : Bool) → t ≡ f c → (b : Bool) → t ≡ b → f (command_in e) ≡ b
   test-is f t q b r = flag_is f b (sym q ∙ r)
 
-  pub clip-is : (r : Rect) (t : Bool) (at : Point) → r ≡ rect_of e.registers.clptl e.registers.clpbr → t ≡ in_rect r at → (b : Bool)
-      → (c.clip && not t) ≡ b → clipped_out e.registers at ≡ b
-  clip-is r t at q s b h =
-      ap₂ (λ (c : Command) t. c.clip && not t) (sym p) (ap (λ r. in_rect r at) (sym q) ∙ sym s) ∙ h
-
-  pub sets-is : (number : ℕ) (trigger t : Bool) → trigger ≡ is_trigger number → t ≡ is_line c → (b : Bool)
-      → (eqb number 6 || (trigger && t && c.prst)) ≡ b → sets_pattern number e ≡ b
-  sets-is number trigger t r q b h =
-      ap₂ (λ (c : Command) (trigger : Bool). eqb number 6 || (trigger && is_line c && c.prst)) (sym p) (sym r)
-      ∙ ap (λ t. eqb number 6 || (trigger && t && c.prst)) (sym q) ∙ h
-
-  pub dash-is : (t : Bool) → t ≡ is_line c → (b : Bool) → (t && not c.solid) ≡ b → in_dashes (command_in e) ≡ b
-  dash-is t q b h = ap₂ (λ (c : Command) t. t && not c.solid) (sym p) (ap is_line (sym p) ∙ sym q) ∙ h
-
 -- what a command visits, by its kind
 module _ (extent : Extent) (e : Engine) where
   abbrev line_to : ℕ
   line_to = line_count (point_of (line_start e)) (point_of e.registers.xy1) (command_in e).nlst
 
   -- the cells that a blit shows
-  abbrev shown : List Cell
+  abbrev shown : List (Option Cell)
   shown = cells_by shows extent e.registers
 
   pub count-blit : is_blit (command_in e) ≡ true
@@ -92,43 +70,25 @@ module _ (extent : Extent) (e : Engine) where
       → visible_cell (point_of e.registers.xy1) e.registers.xy2 e.registers.xy3 (window_in extent e.registers) k
       ≡ cell_at extent e k
   unfolding cell_by
-  cell-blit k h = shown-cell extent e.registers k ∙ first_of (is_blit (command_in e)) (get_or shown k CellPast) CellPast h
+  cell-blit k h = shown-cell extent e.registers k ∙ first_of (is_blit (command_in e)) (get_or shown k None) None h
 
-  pub cell-none : (k : ℕ) → is_blit (command_in e) ≡ false → CellPast ≡ cell_at extent e k
+  pub cell-none : (k : ℕ) → is_blit (command_in e) ≡ false → None ≡ cell_at extent e k
   unfolding cell_by
-  cell-none k h = second-of (is_blit (command_in e)) (get_or shown k CellPast) CellPast h
+  cell-none k h = second-of (is_blit (command_in e)) (get_or shown k None) None h
 
-module _ (e : Engine) (k : ℕ) (cell : Cell) where
-  abbrev on_blit : Visit
+module _ (e : Engine) (k : ℕ) (cell : Option Cell) where
+  abbrev on_blit : Option Point
   on_blit = cell_visit (point_of e.registers.xy1) e.registers.xy3 cell
 
-  abbrev on_line : Visit
+  abbrev on_line : Option Point
   on_line = line_visit (point_of (line_start e)) (point_of e.registers.xy1) (command_in e).nlst k
 
   pub position-blit : is_blit (command_in e) ≡ true → on_blit ≡ position_of e k cell
   unfolding position_of
-  position-blit h = first_of (is_blit (command_in e)) on_blit (cond (is_line (command_in e)) on_line Past) h
+  position-blit h = first_of (is_blit (command_in e)) on_blit (cond (is_line (command_in e)) on_line None) h
 
   pub position-line : is_blit (command_in e) ≡ false → is_line (command_in e) ≡ true → on_line ≡ position_of e k cell
   unfolding position_of
   position-line h l =
-      first_of (is_line (command_in e)) on_line Past l
-      ∙ second-of (is_blit (command_in e)) on_blit (cond (is_line (command_in e)) on_line Past) h
-
-  pub position-none : is_blit (command_in e) ≡ false → is_line (command_in e) ≡ false → Past ≡ position_of e k cell
-  unfolding position_of
-  position-none h l =
-      second-of (is_line (command_in e)) on_line Past l
-      ∙ second-of (is_blit (command_in e)) on_blit (cond (is_line (command_in e)) on_line Past) h
-
--- a visit that was looked at decides where it goes
-pub target-by : (extent : Extent) (e : Engine) (k : ℕ) (cell : Cell) (v w : Visit) → v ≡ position_of e k cell → v ≡ w
-    → through_to extent e.registers w ≡ target_from extent e k cell
-target-by extent e k cell v w p q = ap (through_to extent e.registers) (sym q ∙ p)
-
-pub clipped : (extent : Extent) (g : Registers) (at : Point) → clipped_out g at ≡ true → Outside ≡ through_to extent g (VisitAt at)
-clipped extent g at h = first_of (clipped_out g at) Outside (place_of extent at) h
-
-pub unclipped : (extent : Extent) (g : Registers) (at : Point) (q : Place) → q ≡ place_of extent at → clipped_out g at ≡ false
-    → q ≡ through_to extent g (VisitAt at)
-unclipped extent g at q p h = p ∙ second-of (clipped_out g at) Outside (place_of extent at) h
+      first_of (is_line (command_in e)) on_line None l
+      ∙ second-of (is_blit (command_in e)) on_blit (cond (is_line (command_in e)) on_line None) h

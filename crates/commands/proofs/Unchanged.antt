@@ -1,6 +1,7 @@
 -- A blit by the cells that show leaves what it leaves by all of them, since the others draw nothing; so whole lists leave the
 -- same by either rule.
 -- Assumes nothing.
+use Rattle.std.specs.Prelude.{Option, Some, None}
 use mathlib.Core.Path.{◌≡◌, refl, ap, ap₂, sym, ◌∙◌}
 use mathlib.Core.Bool.{Bool, true, false, not, cond, ◌&&◌, ◌||◌, false≢true}
 use mathlib.Core.List.{List, [], ◌∷◌, foldl}
@@ -17,16 +18,12 @@ use Rattle.geometry.specs.Coordinates.{point_of}
 use Rattle.geometry.specs.Clip.{in_buffer, place_of, place_in}
 use Rattle.geometry.specs.Blit.{blit_cells, cell_point, cell_visit}
 use Rattle.geometry.specs.declared.Cell.{Cell}
-use Rattle.geometry.specs.declared.Cell.TheVariants.{At as CellAt, Past as CellPast}
 use Rattle.geometry.specs.declared.Extent.{Extent}
-use Rattle.geometry.specs.declared.Place.{Place}
-use Rattle.geometry.specs.declared.Place.TheVariants.{At, Outside}
 use Rattle.entries.specs.Fields.{command_of, is_blit, is_line, draws, is_trigger, triggers}
+use Rattle.entries.proofs.Registers.{blit-no-line}
 use Rattle.entries.specs.declared.decoding.Entry.{Entry}
 use Rattle.registers.specs.declared.dashes.Pattern.{Pattern}
 use Rattle.registers.specs.declared.file.Registers.{Registers}
-use Rattle.sources.specs.declared.Source.{Source}
-use Rattle.sources.specs.declared.Source.TheVariants.{Value, Nothing}
 use Rattle.sources.proofs.Reading.{source-solid, source-blit}
 use Rattle.tiles.specs.Tiles.{no_fill}
 use Rattle.tiles.specs.declared.Fill.{Fill}
@@ -56,31 +53,31 @@ abbrev resting : Registers → Engine
 resting g = record { under_way = false; visited = 0; registers = g; pattern = record { place = 0; repeat = 0 }; last = 0 }
 
 -- the buffers after a mark of the source at the place
-abbrev inked_on : Engine → Source → Place → Buffers → Buffers
+abbrev inked_on : Engine → Option ℕ → Option ℕ → Buffers → Buffers
 inked_on e s q b =
     (cond (command_in e).to_virtual b.0 (inked e s q b.0), cond (command_in e).to_virtual (inked e s q b.1) b.1)
 
 -- the buffers after a visit at a cell of the blit in these registers
-abbrev marked : Extent → Registers → Fill → Cell → Buffers → Buffers
+abbrev marked : Extent → Registers → Fill → Option Cell → Buffers → Buffers
 marked extent g f cell b =
     inked_on (resting g) (source_from extent (resting g) f cell b.0 b.1) (through_to extent g (cell_visit (point_of g.xy1) g.xy3 cell)) b
 
 -- ---- a cell that does not show draws nothing
-hidden-place : (extent : Extent) (g : Registers) (cell : Cell) → shows extent g cell ≡ false
-    → through_to extent g (cell_visit (point_of g.xy1) g.xy3 cell) ≡ Outside
+hidden-place : (extent : Extent) (g : Registers) (cell : Option Cell) → shows extent g cell ≡ false
+    → through_to extent g (cell_visit (point_of g.xy1) g.xy3 cell) ≡ None
 unfolding shows place_of
-hidden-place extent g (CellAt column row) h =
-    let p = cell_point (point_of g.xy1) g.xy3 column row in
+hidden-place extent g (Some c) h =
+    let p = cell_point (point_of g.xy1) g.xy3 c.column c.row in
     let inside = in_buffer extent.width extent.height p in
-    by (clipped_out g p) inside (At (place_in extent.width p)) h
+    by (clipped_out g p) inside (Some (place_in extent.width p)) h
   where
-    by : (out inside : Bool) (q : Place) → (not out && inside) ≡ false → cond out Outside (cond inside q Outside) ≡ Outside
+    by : (out inside : Bool) (q : Option ℕ) → (not out && inside) ≡ false → cond out None (cond inside q None) ≡ None
     by true inside q h = refl
     by false true q h = absurd (false≢true (sym h))
     by false false q h = refl
-hidden-place extent g CellPast h = refl
+hidden-place extent g None h = refl
 
-hidden-marks : (extent : Extent) (g : Registers) (f : Fill) (cell : Cell) → shows extent g cell ≡ false → (b : Buffers) → marked extent g f cell b ≡ b
+hidden-marks : (extent : Extent) (g : Registers) (f : Fill) (cell : Option Cell) → shows extent g cell ≡ false → (b : Buffers) → marked extent g f cell b ≡ b
 hidden-marks extent g f cell h b =
     let e = resting g in
     let s = source_from extent e f cell b.0 b.1 in
@@ -117,17 +114,17 @@ module _ {A S : Type 0} (act : A → S → S) where
 
 -- ---- one visit of a blit, by any rule
 module _ (extent : Extent) (e : Engine) (blit : is_blit (command_in e) ≡ true) where
-  same-ink : (s : Source) (q : Place) (l : List ℕ) → inked e s q l ≡ inked (resting e.registers) s q l
-  same-ink (Value v) (At i) l = refl
-  same-ink (Value v) Outside l = refl
-  same-ink Nothing q l = refl
+  same-ink : (s : Option ℕ) (q : Option ℕ) (l : List ℕ) → inked e s q l ≡ inked (resting e.registers) s q l
+  same-ink (Some v) (Some i) l = refl
+  same-ink (Some v) None l = refl
+  same-ink None q l = refl
 
-  same-inks : (s : Source) (q : Place) (b : Buffers) → inked_on e s q b ≡ inked_on (resting e.registers) s q b
+  same-inks : (s : Option ℕ) (q : Option ℕ) (b : Buffers) → inked_on e s q b ≡ inked_on (resting e.registers) s q b
   same-inks s q b =
       ap₂ (λ d v. (cond (command_in e).to_virtual b.0 d, cond (command_in e).to_virtual v b.1)) (same-ink s q b.0) (same-ink s q b.1)
 
   -- the pattern is not read
-  same_source : (f : Fill) (cell : Cell) (b : Buffers) → source_from extent e f cell b.0 b.1 ≡ source_from extent (resting e.registers) f cell b.0 b.1
+  same_source : (f : Fill) (cell : Option Cell) (b : Buffers) → source_from extent e f cell b.0 b.1 ≡ source_from extent (resting e.registers) f cell b.0 b.1
   same_source f cell b =
       let c = command_in e in
       let g = e.registers in
@@ -148,9 +145,6 @@ module _ (extent : Extent) (e : Engine) (blit : is_blit (command_in e) ≡ true)
       ∙ same-inks (source_from extent (resting e.registers) f cell b.0 b.1) (through_to extent e.registers (cell_visit (point_of e.registers.xy1) e.registers.xy3 cell)) b)
 
 -- ---- all visits of a blit, by any rule
-not_line : (g : Registers) → is_blit (command_of g.cmd) ≡ true → is_line (command_of g.cmd) ≡ false
-not_line g h = ap (λ n. eqb n 2 || eqb n 5) (eqb-true (command_of g.cmd).opcode 1 h)
-
 -- a blit that has visited j pixels, and one that has finished
 abbrev midway : Registers → Pattern → ℕ → ℕ → Engine
 midway g q last j = record { under_way = true; visited = j; registers = g; pattern = q; last = last }
@@ -159,23 +153,23 @@ abbrev finished : Registers → Pattern → Engine
 finished g q = record { under_way = false; visited = 0; registers = g; pattern = q; last = g.xy1 }
 
 module _ (rule : Rule) (extent : Extent) (g : Registers) (q : Pattern) (last : ℕ) (blit : is_blit (command_of g.cmd) ≡ true) (f : Fill) where
-  abbrev cells : List Cell
+  abbrev cells : List (Option Cell)
   cells = cells_by rule extent g
 
   abbrev act : ℕ → Buffers → Buffers
-  act k = marked extent g f (get_or cells k CellPast)
+  act k = marked extent g f (get_or cells k None)
 
   count-is : (e : Engine) → e.registers ≡ g → count_by rule extent e ≡ length cells
   unfolding count_by
   count-is e p = rw (p, blit)
 
-  cell-is : (j : ℕ) → cell_by rule extent (midway g q last j) j ≡ get_or cells j CellPast
+  cell-is : (j : ℕ) → cell_by rule extent (midway g q last j) j ≡ get_or cells j None
   unfolding cell_by
   cell-is j = rw blit
 
   keeps-pattern : (j : ℕ) → pattern_after (midway g q last j) ≡ q
   unfolding pattern_after
-  keeps-pattern j = rw (not_line g blit)
+  keeps-pattern j = rw (blit-no-line (command_of g.cmd) blit)
 
   advanced : (j : ℕ) → advanced_by rule extent (midway g q last j) ≡ cond (ltb (suc j) (length cells)) (midway g q last (suc j)) (finished g q)
   unfolding advanced_by
@@ -262,7 +256,7 @@ module _ (rule : Rule) (extent : Extent) (number : ℕ) (f : Engine) (b : Buffer
   by_count : (n : ℕ) → length (cells_by rule extent f.registers) ≡ n
       → finished_by rule extent (entered extent (triggered_by rule extent number f) b)
       ≡ pictured (finished f.registers (pattern_set number f)) no_fill
-      (in_turn (λ k. marked extent f.registers taken (get_or (cells_by rule extent f.registers) k CellPast)) n b)
+      (in_turn (λ k. marked extent f.registers taken (get_or (cells_by rule extent f.registers) k None)) n b)
   unfolding in_turn
   by_count zero p =
       let none = count-is rule extent f.registers (pattern_set number f) f.last blit taken f refl ∙ p in
@@ -283,9 +277,9 @@ module _ (rule : Rule) (extent : Extent) (number : ℕ) (f : Engine) (b : Buffer
   blit-done =
       let g = f.registers in
       by_count (length (cells_by rule extent g)) refl
-      ∙ ap (pictured (finished g (pattern_set number f)) no_fill) (over-turns (marked extent g taken) (cells_by rule extent g) CellPast b)
+      ∙ ap (pictured (finished g (pattern_set number f)) no_fill) (over-turns (marked extent g taken) (cells_by rule extent g) None b)
 
-every-passes : (extent : Extent) (g : Registers) (l : List Cell) → filtered (every extent g) l ≡ l
+every-passes : (extent : Extent) (g : Registers) (l : List (Option Cell)) → filtered (every extent g) l ≡ l
 unfolding filtered every
 every-passes extent g [] = refl
 every-passes extent g (x ∷ l) = ap (λ l. x ∷ l) (every-passes extent g l)

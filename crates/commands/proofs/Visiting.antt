@@ -1,5 +1,6 @@
 -- What holds of every visit, visits one after the other, and the pattern after them.
 -- Assumes nothing.
+use Rattle.std.specs.Prelude.{Option, Some, None}
 use mathlib.Core.Path.{◌≡◌, refl, ap, ◌∙◌}
 use mathlib.Core.Bool.{Bool, true, false, cond}
 use mathlib.Core.List.{List}
@@ -9,24 +10,20 @@ use lib.Dec.{ltb}
 use lib.ListN.{length, get_or, length-set}
 use Rattle.raster.specs.Raster.{new_byte}
 use Rattle.geometry.specs.declared.Extent.{Extent}
-use Rattle.geometry.specs.declared.Place.{Place}
-use Rattle.geometry.specs.declared.Place.TheVariants.{At, Outside}
 use Rattle.lemmas.specs.Turns.{in_turn}
 use Rattle.lemmas.proofs.Booleans.{by_cases}
 use Rattle.entries.specs.Fields.{command_of, pattern_control_of}
 use Rattle.registers.specs.Patterns.{next_of}
 use Rattle.registers.specs.declared.dashes.Pattern.{Pattern}
 use Rattle.registers.specs.declared.file.Registers.{Registers}
-use Rattle.sources.specs.declared.Source.{Source}
-use Rattle.sources.specs.declared.Source.TheVariants.{Value, Nothing}
 use Rattle.commands.specs.Visits.{command_in, Rule, shows, count_by, count_of, target_of, source_at}
 use Rattle.commands.specs.Steps.{Scene, inked, inked_at, in_dashes, pattern_after, advanced_by, advanced_of, visit_by, visit_of, visits_by, visits_of, KeepsLengths, HiddenDrawsNothing, MovesByVisits, OthersMoveNothing}
 use Rattle.commands.specs.declared.Engine.{Engine}
 
-inked-length : (e : Engine) (s : Source) (q : Place) (l : List ℕ) → length (inked e s q l) ≡ length l
-inked-length e (Value v) (At i) l = length-set l i (new_byte (command_in e).code v (get_or l i 0) e.registers.mask)
-inked-length e (Value v) Outside l = refl
-inked-length e Nothing q l = refl
+inked-length : (e : Engine) (s : Option ℕ) (q : Option ℕ) (l : List ℕ) → length (inked e s q l) ≡ length l
+inked-length e (Some v) (Some i) l = length-set l i (new_byte (command_in e).code v (get_or l i 0) e.registers.mask)
+inked-length e (Some v) None l = refl
+inked-length e None q l = refl
 
 -- what holds of both holds of the one that is picked
 either : (P : List ℕ → Type 0) (t : Bool) (l m : List ℕ) → P l → P m → P (cond t l m)
@@ -45,9 +42,9 @@ keeps-lengths extent s =
           refl,
     )
 
-pub hidden-inks-nothing : (e : Engine) (s : Source) (q : Place) (l : List ℕ) → q ≡ Outside → inked e s q l ≡ l
-hidden-inks-nothing e (Value v) q l p = ap (λ q. inked_at e v q l) p
-hidden-inks-nothing e Nothing q l p = refl
+pub hidden-inks-nothing : (e : Engine) (s : Option ℕ) (q : Option ℕ) (l : List ℕ) → q ≡ None → inked e s q l ≡ l
+hidden-inks-nothing e (Some v) q l p = ap (λ q. inked_at e v q l) p
+hidden-inks-nothing e None q l p = refl
 
 pub hidden-draws-nothing : HiddenDrawsNothing
 unfolding visit_by

@@ -1,17 +1,13 @@
 -- One step on the two picture buffers: a pixel visited, or an entry taken (01, Steps and Pixels).
-use Rattle.std.specs.Prelude.{◌≡◌, Bool, true, false, not, cond, ◌&&◌, ◌||◌, List, ℕ, zero, suc, ◌+◌, eqb, ltb, length, get_or, set}
+use Rattle.std.specs.Prelude.{◌≡◌, Bool, true, false, not, cond, ◌&&◌, ◌||◌, List, ℕ, zero, suc, ◌+◌, eqb, ltb, length, get_or, set, Option, Some, None}
 use Rattle.raster.specs.Raster.{new_byte}
 use Rattle.geometry.specs.declared.Extent.{Extent}
-use Rattle.geometry.specs.declared.Place.{Place}
-use Rattle.geometry.specs.declared.Place.TheVariants.{At, Outside}
 use Rattle.entries.specs.Fields.{pattern_control_of, is_line, is_trigger, triggers}
 use Rattle.entries.specs.declared.fields.Command.{Command}
 use Rattle.entries.specs.declared.decoding.Entry.{Entry}
 use Rattle.registers.specs.Registers.{fresh_registers, written_of}
 use Rattle.registers.specs.Patterns.{start_of, next_of, moves_of}
 use Rattle.registers.specs.declared.dashes.Pattern.{Pattern}
-use Rattle.sources.specs.declared.Source.{Source}
-use Rattle.sources.specs.declared.Source.TheVariants.{Value, Nothing}
 use Rattle.tiles.specs.declared.Fill.{Fill}
 use Rattle.commands.specs.Hatching.{fill_taken, fill_after}
 use Rattle.commands.specs.Visits.{command_in, Rule, shows, count_by, cell_by, target_from, target_of, source_from}
@@ -39,13 +35,13 @@ fresh_engine =
     }
 
 -- A buffer after a visit to the place of a pixel.
-abbrev pub inked_at : Engine → ℕ → Place → List ℕ → List ℕ
-inked_at e value (At i) buffer = set buffer i (new_byte (command_in e).code value (get_or buffer i 0) e.registers.mask)
-inked_at e value Outside buffer = buffer
+abbrev pub inked_at : Engine → ℕ → Option ℕ → List ℕ → List ℕ
+inked_at e value (Some i) buffer = set buffer i (new_byte (command_in e).code value (get_or buffer i 0) e.registers.mask)
+inked_at e value None buffer = buffer
 
-abbrev pub inked : Engine → Source → Place → List ℕ → List ℕ
-inked e (Value v) place buffer = inked_at e v place buffer
-inked e Nothing place buffer = buffer
+abbrev pub inked : Engine → Option ℕ → Option ℕ → List ℕ → List ℕ
+inked e (Some v) place buffer = inked_at e v place buffer
+inked e None place buffer = buffer
 
 -- The pattern after a visit: "The pattern is to move after every pixel that a line without SOLID visits, drawn, clipped or
 -- off the buffer" (02, R-1).
@@ -162,7 +158,7 @@ KeepsLengths =
 -- A pixel that clip or buffer hides is visited and leaves the buffers as they are.
 abbrev pub HiddenDrawsNothing : Type 0
 HiddenDrawsNothing =
-    (extent : Extent) (s : Scene) → target_of extent s.engine s.engine.visited ≡ Outside
+    (extent : Extent) (s : Scene) → target_of extent s.engine s.engine.visited ≡ None
     → ((visit_of extent s).display ≡ s.display)
     × ((visit_of extent s).virt ≡ s.virt)
 

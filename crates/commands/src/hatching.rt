@@ -28,20 +28,15 @@ impl Engine {
         if !self.hatches() {
             return no_fill();
         }
-        if c.from_virtual {
-            return tile_at(virt, extent, g.xy0);
-        }
-        tile_at(display, extent, g.xy0)
+        let source = if c.from_virtual { virt } else { display };
+        tile_at(source, extent, g.xy0)
     }
 
     // What is held after a visit, which left this engine.
     pub fn fill_after(self, fill: Fill) -> Fill
         ensures { result ≡ fill_after self fill }
     {
-        if self.under_way {
-            return fill;
-        }
-        no_fill()
+        if self.under_way { fill } else { no_fill() }
     }
 
     // Whether a record may hold this fill beside this engine.

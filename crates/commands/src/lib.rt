@@ -17,6 +17,7 @@ use registers::{Pattern, Registers, state_ok};
 // What a step uses besides lists and buffers. `last` is the last point, as XY1's word.
 #[derive(Clone, Copy)]
 pub struct Engine {
+    // Kept: a record with no command and visited other than 0 is Malformed (`command_ok`), so the two stay apart.
     pub under_way: bool,
     pub visited: u32,
     pub registers: Registers,

@@ -7,9 +7,9 @@ ghost use Rattle.commands.specs.Entering.{put_of, begin_of};
 
 use crate::Engine;
 use entries::{TRIGGER, command_of, is_trigger, pattern_control_of};
-use geometry::{Extent, Place};
+use geometry::Extent;
 use registers::Pattern;
-use sources::{Source, source_of};
+use sources::source_of;
 use tiles::Fill;
 
 // The new byte of a pixel; of value and mask the low eight bits count.
@@ -21,13 +21,10 @@ fn mixed(code: u8, value: u32, old: u8, mask: u32) -> u8
 
 impl Engine {
     // A visit's mark in its destination buffer.
-    fn ink(self, source: Source, place: Place, buffer: &mut [u8])
+    fn ink(self, source: Option<u32>, place: Option<usize>, buffer: &mut [u8])
         ensures { buffer.new ≡ inked self source place buffer.old }
     {
-        let Source::Value(value) = source else {
-            return;
-        };
-        let Place::At(at) = place else {
+        let (Some(value), Some(at)) = (source, place) else {
             return;
         };
         let g = self.registers;
@@ -38,6 +35,7 @@ impl Engine {
     }
 
     // The pattern after a visit.
+    #[tactic(auto, unfolding(crate::specs::Steps::pattern_after))]
     fn pattern_after(self) -> Pattern
         ensures { result ≡ pattern_after self }
     {
@@ -51,31 +49,31 @@ impl Engine {
     }
 
     // With one more pixel visited.
+    #[tactic(auto, unfolding(crate::specs::Steps::advanced_by))]
     fn advanced(self, extent: Extent) -> Engine
         ensures { result ≡ advanced_of extent self }
     {
-        let g = self.registers;
-        let p = self.pattern_after();
+        let pattern = self.pattern_after();
         let n = self.count(extent);
         if (self.visited as usize) + 1 < n {
             return Engine {
                 under_way: true,
                 visited: self.visited + 1,
-                registers: g,
-                pattern: p,
-                last: self.last,
+                pattern,
+                ..self
             };
         }
         Engine {
             under_way: false,
             visited: 0,
-            registers: g,
-            pattern: p,
-            last: g.xy1,
+            pattern,
+            last: self.registers.xy1,
+            ..self
         }
     }
 
     // One pixel visited. A blit's target and source are at the same cell.
+    #[tactic(auto, unfolding(crate::specs::Steps::visit_by))]
     pub fn visit(self, extent: Extent, fill: Fill, display: &mut [u8], virt: &mut [u8]) -> Engine
         ensures { scene result (fill_after result fill) display.new virt.new ≡ visit_of extent (scene self fill display.old virt.old) }
     {
@@ -96,6 +94,7 @@ impl Engine {
     }
 
     // The pattern state once a register is written.
+    // Kept: a register by its number, here and in `put`: they answer for every number (`put_of`).
     fn pattern_set(self, number: u32) -> Pattern
         ensures { result ≡ pattern_set number self }
     {
@@ -112,22 +111,15 @@ impl Engine {
     pub fn put(self, number: u32, word: u32) -> Engine
         ensures { result ≡ put_of self number word }
     {
-        let g = self.registers;
-        let p = self.pattern;
         let written = Engine {
             under_way: false,
             visited: 0,
-            registers: g.written(number, word),
-            pattern: p,
-            last: self.last,
+            registers: self.registers.written(number, word),
+            ..self
         };
-        let h = written.registers;
         Engine {
-            under_way: false,
-            visited: 0,
-            registers: h,
             pattern: written.pattern_set(number),
-            last: self.last,
+            ..written
         }
     }
 
@@ -136,15 +128,11 @@ impl Engine {
         ensures { result ≡ begin_of self word }
     {
         let e = self.put(TRIGGER, word);
-        let g = e.registers;
-        let p = e.pattern;
-        let c = command_of(g.cmd);
+        let c = command_of(e.registers.cmd);
         Engine {
             under_way: c.draws(),
             visited: 0,
-            registers: g,
-            pattern: p,
-            last: e.last,
+            ..e
         }
     }
 }

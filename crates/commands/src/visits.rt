@@ -7,8 +7,8 @@ ghost use Rattle.commands.specs.Visits.{line_start, window_in, count_of, cell_at
 use crate::Engine;
 use entries::command_of;
 use geometry::{
-    Cell, Extent, Place, Visit, Window, blit_cell, cell_visit, line_count, line_visit, place_of,
-    rect_of, visible_count, visible_index, window_of,
+    Cell, Extent, Point, Window, blit_cell, cell_visit, line_count, line_visit, place_of, rect_of,
+    visible_count, visible_index, window_of,
 };
 
 // Where a line starts: a polyline at the last point.
@@ -85,20 +85,21 @@ impl Engine {
     }
 
     // The cell of its visit k, if it is a blit.
-    pub(crate) fn cell(self, extent: Extent, k: usize) -> Cell
+    pub(crate) fn cell(self, extent: Extent, k: usize) -> Option<Cell>
         ensures { result ≡ cell_at extent self k }
     {
         let g = self.registers;
         let c = command_of(g.cmd);
-        if c.is_blit() {
-            let i = visible_index(g.xy1, g.xy2, g.xy3, self.window(extent), k);
-            return blit_cell(g.xy2, i);
+        if !c.is_blit() {
+            return None;
         }
-        Cell::Past
+        let i = visible_index(g.xy1, g.xy2, g.xy3, self.window(extent), k);
+        blit_cell(g.xy2, i)
     }
 
     // Where its visit k lies, which is at a cell if it is a blit.
-    fn position(self, k: usize, cell: Cell) -> Visit
+    #[tactic(auto, unfolding(crate::specs::Visits::position_of))]
+    fn position(self, k: usize, cell: Option<Cell>) -> Option<Point>
         ensures { result ≡ position_of self k cell }
     {
         let g = self.registers;
@@ -109,21 +110,18 @@ impl Engine {
         if c.is_line() {
             return line_visit(self.line_start(), g.xy1, c.nlst, k);
         }
-        Visit::Past
+        None
     }
 
     // The place of visit k in its buffer, where buffer and clip let it through.
-    pub(crate) fn target(self, extent: Extent, k: usize, cell: Cell) -> Place
+    pub(crate) fn target(self, extent: Extent, k: usize, cell: Option<Cell>) -> Option<usize>
         ensures { result ≡ target_from extent self k cell }
     {
         let g = self.registers;
         let c = command_of(g.cmd);
-        let visit = self.position(k, cell);
-        let Visit::At(p) = visit else {
-            return Place::Outside;
-        };
+        let p = self.position(k, cell)?;
         if c.clip & !rect_of(g.clptl, g.clpbr).contains(p) {
-            return Place::Outside;
+            return None;
         }
         place_of(extent, p)
     }

@@ -5,7 +5,7 @@
 
 ghost use Rattle.std.specs.Io.{ReadsAtMost};
 
-use answers::Status;
+use answers::{Heard, Refusal};
 use board::{Answer, Board};
 use std::io;
 use std::io::Read;
@@ -13,19 +13,16 @@ use std::io::Read;
 // The call that refuses the input, or the run. `more` is what follows the first 20,480 bytes.
 fn draw(list: &[u8], read: usize, more: usize, display: &mut [u8], virt: &mut [u8]) -> Answer {
     let made = Board::make(8, 4, 4096);
-    let b = made.board;
     if (0 < more) | (read % 5 != 0) {
         return Answer {
-            status: Status::WrongSize,
-            board: b,
+            status: Err(Refusal::WrongSize),
+            board: made.board,
         };
     }
-    let posted = b.post(list, 0, read / 5);
-    let status = posted.status;
-    let after = posted.board;
-    match status {
-        Status::Done(_) => after.run(1000000, list, display, virt),
-        _ => posted,
+    let posted = made.board.post(list, 0, read / 5);
+    match posted.status {
+        Ok(_) => posted.board.run(1000000, list, display, virt),
+        Err(_) => posted,
     }
 }
 
@@ -34,6 +31,7 @@ fn read_full<R: Read>(input: &mut R, buffer: &mut [u8]) -> io::Result<usize>
     ensures { ReadsAtMost result buffer.new }
 {
     let mut read = 0;
+    // Kept: no plainer as a `for`: a turn adds what one read gave.
     while read < buffer.len() {
         let n = input.read(&mut buffer[read..])?;
         if n == 0 {
@@ -45,35 +43,23 @@ fn read_full<R: Read>(input: &mut R, buffer: &mut [u8]) -> io::Result<usize>
 }
 
 fn print_answer(rt: &impl Print, a: Answer) -> io::Result<()> {
-    let status = a.status;
-    let b = a.board;
-    let s = b.active;
-    let state = if s.taken { "paused" } else { "idle" };
+    let state = if a.board.active.taken {
+        "paused"
+    } else {
+        "idle"
+    };
     println!(rt;
         "answer {} steps {} {state}",
-        status.number(),
-        status.steps()
+        a.status.number(),
+        a.status.steps()
     )
 }
 
-fn digit(d: u8) -> u8 {
-    let n = d % 16;
-    if n < 10 { b'0' + n } else { b'A' + (n - 10) }
-}
-
-// A pixel in two upper-case hexadecimal digits, and what follows it.
-fn print_pixel(rt: &impl Print, byte: u8, last: bool) -> io::Result<()> {
-    let text = [
-        digit(byte / 16),
-        digit(byte),
-        if last { b'\n' } else { b' ' },
-    ];
-    rt.write_all(&text)
-}
-
+// Each pixel in two upper-case hexadecimal digits, a line to each row.
 fn print_picture(rt: &impl Print, display: &[u8; 32]) -> io::Result<()> {
-    for k in 0..32 {
-        print_pixel(rt, display[k], k % 8 == 7)?;
+    for (k, pixel) in display.iter().enumerate() {
+        let end = if k % 8 == 7 { '\n' } else { ' ' };
+        print!(rt; "{pixel:02X}{end}")?;
     }
     Ok(())
 }

@@ -10,11 +10,12 @@ use lib.ListN.{length}
 use Rattle.lemmas.proofs.Booleans.{by_cases}
 use Rattle.entries.specs.Layout.{decoded_of}
 use Rattle.entries.specs.Legality.{decoded_legal, legal_at}
-use Rattle.entries.specs.declared.decoding.Decoded.{Decoded}
+use Rattle.std.specs.Prelude.{Option}
+use Rattle.entries.specs.declared.decoding.Entry.{Entry}
 use Rattle.entries.proofs.Decodes.{decoded-none}
 
 -- what is decoded at a place decides
-pub legal-by : (l : List ℕ) (k : ℕ) (d e : Decoded) → d ≡ decoded_of l k → d ≡ e → decoded_legal e ≡ legal_at l k
+pub legal-by : (l : List ℕ) (k : ℕ) (d e : Option Entry) → d ≡ decoded_of l k → d ≡ e → decoded_legal e ≡ legal_at l k
 legal-by l k d e p q = ap decoded_legal (sym q ∙ p)
 
 -- a legal entry lies in list memory

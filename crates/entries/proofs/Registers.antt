@@ -1,32 +1,72 @@
 -- Which words a register may hold, register by register.
 -- Assumes nothing.
-use mathlib.Core.Path.{◌≡◌, ap, sym, ◌∙◌}
-use mathlib.Core.Bool.{Bool, true, false, ◌&&◌, ◌||◌, or-false}
+use mathlib.Core.Path.{◌≡◌, refl, ap, sym, ◌∙◌}
+use mathlib.Core.Bool.{Bool, true, false, ◌&&◌, ◌||◌, or-false, and-false, false≢true}
+use mathlib.Core.Logic.{◌⊎◌, inl, inr}
 use Prim.Native.Nat.{ℕ, ◌/◌, ◌%◌, ◌^◌, ◌≤◌, ◌<◌}
 use native.Mathlib.Omega.{arith}
-use borrow.Author.Tests.{eqb-true, eqb-false, eq-eqb, ne_eqb, le-leb, lt-leb, ltb-true, ltb-false}
+use borrow.Author.Tests.{eqb-false, eq-eqb, ne_eqb, le-leb, lt-leb, ltb-true, ltb-false}
 use lib.Dec.{eqb, leb, ltb}
 use Rattle.lemmas.proofs.Booleans.{by_cases}
-use Rattle.entries.specs.Fields.{command_of, is_blit, is_line}
+use Rattle.entries.specs.Fields.{field, opcode_of, command_of, blits, lines, is_blit, is_line}
+use Rattle.entries.specs.declared.fields.Opcode.{Opcode}
+use Rattle.entries.specs.declared.fields.Opcode.TheVariants.{Noop, Blit, Line, Polyline, Unknown}
+use Rattle.entries.specs.declared.fields.Command.{Command}
 use Rattle.entries.specs.Legality.{blit_legal, line_legal, cmd_legal, pctrl_legal, data_legal, entry_legal}
 
--- CMD by the kind of its command
-abbrev low_zero : ℕ → Bool
-low_zero word = eqb (word % 2 ^ 14) 0
+-- CMD by its opcode
+module _ (word : ℕ) (c : Command) (is : c ≡ command_of word) where
+  abbrev low_zero : Bool
+  low_zero = eqb (word % 2 ^ 14) 0
 
-pub blit-word : (word : ℕ) → is_blit (command_of word) ≡ true → (low_zero word && blit_legal (command_of word)) ≡ cmd_legal word
-unfolding cmd_legal
-blit-word word h =
-    let c = command_of word in
-    let one : c.opcode ≡ 1 = eqb-true c.opcode 1 h in
-    let line : is_line c ≡ false = ap (λ n. eqb n 2 || eqb n 5) one in
-    let some : eqb word 0 ≡ false = ne_eqb word 0 (λ e. omega (arith, one)) in
-    rw (some, h, line) (simp or-false)
+  -- only NOOP's may be 0
+  some-word : (c.opcode ≡ Noop → ⊥) → eqb word 0 ≡ false
+  some-word other =
+      ne_eqb word 0 (λ e. other (ap (λ (c : Command). c.opcode) is ∙ ap (λ (w : ℕ). opcode_of (field 28 4 w)) e))
 
-pub other_word : (word : ℕ) → is_blit (command_of word) ≡ false
-    → (eqb word 0 || (low_zero word && (is_line (command_of word) && line_legal (command_of word)))) ≡ cmd_legal word
-unfolding cmd_legal
-other_word word h = rw h
+  abbrev legal_by : Command → Bool
+  legal_by c = eqb word 0 || (low_zero && (is_blit c && blit_legal c || is_line c && line_legal c))
+
+  all-by : legal_by c ≡ cmd_legal word
+  unfolding cmd_legal
+  all-by = ap legal_by is
+
+  pub noop-word : c.opcode ≡ Noop → eqb word 0 ≡ cmd_legal word
+  noop-word h =
+      let e : eqb word 0 ≡ legal_by c = rw (h, and-false low_zero) (sym (or-false (eqb word 0))) in e ∙ all-by
+
+  pub blit-word : c.opcode ≡ Blit → (low_zero && blit_legal c) ≡ cmd_legal word
+  blit-word h =
+      let some = some-word (λ (n : c.opcode ≡ Noop). cc) in
+      let e : (low_zero && blit_legal c) ≡ legal_by c = rw (some, h, or-false (blit_legal c)) refl in e ∙ all-by
+
+  pub line-word : (c.opcode ≡ Line) ⊎ (c.opcode ≡ Polyline) → (low_zero && line_legal c) ≡ cmd_legal word
+  line-word (inl h) =
+      let some = some-word (λ (n : c.opcode ≡ Noop). cc) in
+      let e : (low_zero && line_legal c) ≡ legal_by c = rw (some, h) refl in e ∙ all-by
+  line-word (inr h) =
+      let some = some-word (λ (n : c.opcode ≡ Noop). cc) in
+      let e : (low_zero && line_legal c) ≡ legal_by c = rw (some, h) refl in e ∙ all-by
+
+  pub unknown-word : (n : ℕ) → c.opcode ≡ Unknown n → false ≡ cmd_legal word
+  unknown-word n h =
+      let some = some-word (λ (m : c.opcode ≡ Noop). cc) in
+      let e : false ≡ legal_by c = rw (some, h, and-false low_zero) refl in e ∙ all-by
+
+-- a blit is no line, and a line no blit
+pub blit-no-line : (c : Command) → is_blit c ≡ true → is_line c ≡ false
+blit-no-line c h = no_line c.opcode h
+  where
+    no_line : (o : Opcode) → blits o ≡ true → lines o ≡ false
+    no_line Noop h = refl
+    no_line Blit h = refl
+    no_line Line h = absurd (false≢true h)
+    no_line Polyline h = absurd (false≢true h)
+    no_line (Unknown n) h = refl
+
+pub line-no-blit : (c : Command) → is_line c ≡ true → is_blit c ≡ false
+line-no-blit c h =
+    by_cases (is_blit c) (λ t. absurd (false≢true (sym (blit-no-line c t) ∙ h))) (λ t. t)
 
 pub cmd-held : (register word : ℕ) → register ≡ 0 → cmd_legal word ≡ data_legal register word
 unfolding data_legal

@@ -1,8 +1,7 @@
 -- P8, P11 and P12 (01, Boards to check). And which stippled and tiled blits are legal (02, R-2 and R-7).
-use Rattle.std.specs.Prelude.{◌≡◌, true, false, List, [], ◌∷◌, ℕ}
+use Rattle.std.specs.Prelude.{◌≡◌, true, false, Some, List, [], ◌∷◌, ℕ}
 use Rattle.entries.specs.Layout.{decoded_of}
 use Rattle.entries.specs.Legality.{cmd_legal, pctrl_legal, data_legal, legal_at}
-use Rattle.entries.specs.declared.decoding.Decoded.TheVariants.{Whole}
 
 abbrev pub P8 : Type 0
 P8 = (pctrl_legal 0x2003 ≡ false) × (pctrl_legal 0x0303 ≡ false) × (pctrl_legal 0x0203 ≡ true) × (pctrl_legal 0x1F00 ≡ true)
@@ -16,7 +15,7 @@ memory first = first ∷ 0x00 ∷ 0x04 ∷ 0x00 ∷ 0x02 ∷ []
 
 abbrev pub P12 : Type 0
 P12 =
-    (decoded_of (memory 0x60) 0 ≡ Whole (record { register = 12; spare = 0; word = 0x0004_0002 }))
+    (decoded_of (memory 0x60) 0 ≡ Some (record { register = 12; spare = 0; word = 0x0004_0002 }))
     × (legal_at (memory 0x60) 0 ≡ true)
     × (legal_at (memory 0x61) 0 ≡ false)
     × (legal_at (memory 0x68) 0 ≡ false)

@@ -1,8 +1,6 @@
 -- Entries (01, Entry layout): "Bits 39..35 register, 34..32 zero, 31..0 data", most significant first, 5 bytes an entry.
-use Rattle.std.specs.Prelude.{cond, List, ℕ, ◌+◌, ◌*◌, ◌/◌, ◌%◌, ltb, length, get_or}
+use Rattle.std.specs.Prelude.{cond, Option, Some, None, List, ℕ, ◌+◌, ◌*◌, ◌/◌, ◌%◌, ltb, length, get_or}
 use Rattle.entries.specs.declared.decoding.Entry.{Entry}
-use Rattle.entries.specs.declared.decoding.Decoded.{Decoded}
-use Rattle.entries.specs.declared.decoding.Decoded.TheVariants.{Whole, Nothing}
 
 -- Four bytes as one number, most significant first.
 abbrev pub joined : ℕ → ℕ → ℕ → ℕ → ℕ
@@ -18,8 +16,8 @@ entry_of l k =
     }
 
 -- Past the end of list memory there is none.
-unfoldable pub decoded_of : List ℕ → ℕ → Decoded
-decoded_of l k = cond (ltb k (length l / 5)) (Whole (entry_of l k)) Nothing
+unfoldable pub decoded_of : List ℕ → ℕ → Option Entry
+decoded_of l k = cond (ltb k (length l / 5)) (Some (entry_of l k)) None
 
 unfoldable pub word_at : List ℕ → ℕ → ℕ
 word_at l k = cond (ltb k (length l / 5)) (entry_of l k).word 0

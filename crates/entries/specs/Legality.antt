@@ -1,10 +1,8 @@
 -- Which entries are legal (01, Entry layout).
-use Rattle.std.specs.Prelude.{Bool, false, not, ◌&&◌, ◌||◌, List, ℕ, ◌/◌, ◌%◌, ◌^◌, eqb, leb, ltb}
+use Rattle.std.specs.Prelude.{Bool, false, Option, Some, None, not, ◌&&◌, ◌||◌, List, ℕ, ◌/◌, ◌%◌, ◌^◌, eqb, leb, ltb}
 use Rattle.entries.specs.Layout.{decoded_of}
 use Rattle.entries.specs.Fields.{command_of, is_blit, is_line, length_of, pscl, sptr, sscl}
 use Rattle.entries.specs.declared.decoding.Entry.{Entry}
-use Rattle.entries.specs.declared.decoding.Decoded.{Decoded}
-use Rattle.entries.specs.declared.decoding.Decoded.TheVariants.{Whole, Nothing}
 use Rattle.entries.specs.declared.fields.Command.{Command}
 
 -- "BITBLT: .. NLST, PRST zero"; KEY only without SOLID. STPL is legal since 02, R-2: "6 stays for KEY with STPL and for
@@ -49,9 +47,9 @@ data_legal register word =
 abbrev pub entry_legal : Entry → Bool
 entry_legal e = eqb e.spare 0 && data_legal e.register e.word
 
-abbrev pub decoded_legal : Decoded → Bool
-decoded_legal (Whole e) = entry_legal e
-decoded_legal Nothing = false
+abbrev pub decoded_legal : Option Entry → Bool
+decoded_legal (Some e) = entry_legal e
+decoded_legal None = false
 
 abbrev pub legal_at : List ℕ → ℕ → Bool
 legal_at l k = decoded_legal (decoded_of l k)

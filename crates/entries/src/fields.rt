@@ -1,11 +1,37 @@
 // The fields of CMD and PCTRL.
 ghost use Rattle.std.specs.Prelude.{◌≡◌};
-ghost use Rattle.entries.specs.Fields.{command_of, is_blit, is_polyline, is_line, draws, is_trigger, length_of, pattern_control_of};
+ghost use Rattle.entries.specs.Fields.{opcode_of, command_of, is_blit, is_polyline, is_line, draws, is_trigger, length_of, pattern_control_of};
+
+// What a command is to do.
+#[derive(Clone, Copy, PartialEq, Eq)]
+pub enum Opcode {
+    Noop,
+    Blit,
+    Line,
+    // A line that starts at the last point.
+    Polyline,
+    // Any other number: no command.
+    Unknown(u32),
+}
+
+impl From<u32> for Opcode {
+    ghost from_gives = { λ number opcode. opcode ≡ opcode_of number };
+
+    fn from(number: u32) -> Opcode {
+        match number {
+            0 => Opcode::Noop,
+            1 => Opcode::Blit,
+            2 => Opcode::Line,
+            5 => Opcode::Polyline,
+            other => Opcode::Unknown(other),
+        }
+    }
+}
 
 // CMD, its flags by the manual's names; from_virtual and to_virtual are source and destination.
 #[derive(Clone, Copy)]
 pub struct Command {
-    pub opcode: u32,
+    pub opcode: Opcode,
     pub code: u8,
     pub solid: bool,
     pub trnsp: bool,
@@ -19,11 +45,12 @@ pub struct Command {
     pub apat: bool,
 }
 
+// Kept: a function and no From, which is no plainer: `command_of(word)` says what `Command::from(word)` would.
 pub fn command_of(word: u32) -> Command
     ensures { result ≡ command_of word }
 {
     Command {
-        opcode: word / 268435456 % 16,
+        opcode: Opcode::from(word / 268435456 % 16),
         code: (word / 16777216 % 16) as u8,
         solid: word / 8388608 % 2 == 1,
         trnsp: word / 4194304 % 2 == 1,
@@ -43,20 +70,20 @@ impl Command {
     pub fn is_blit(self) -> bool
         ensures { result ≡ is_blit self }
     {
-        self.opcode == 1
+        matches!(self.opcode, Opcode::Blit)
     }
 
     // Whether the command is a line that starts at the last point.
     pub fn is_polyline(self) -> bool
         ensures { result ≡ is_polyline self }
     {
-        self.opcode == 5
+        matches!(self.opcode, Opcode::Polyline)
     }
 
     pub fn is_line(self) -> bool
         ensures { result ≡ is_line self }
     {
-        (self.opcode == 2) | self.is_polyline()
+        matches!(self.opcode, Opcode::Line | Opcode::Polyline)
     }
 
     // Whether the command draws: NOOP does not.
@@ -92,6 +119,7 @@ pub fn pattern_length(word: u32) -> u32
     if word % 32 == 0 { 32 } else { word % 32 }
 }
 
+// Kept: a function and no From, as `command_of`.
 pub fn pattern_control_of(word: u32) -> PatternControl
     ensures { result ≡ pattern_control_of word }
 {

@@ -2,8 +2,8 @@
 ghost use Rattle.std.specs.Prelude.{◌≡◌};
 ghost use Rattle.entries.specs.Legality.{blit_legal, line_legal, cmd_legal, pctrl_legal, data_legal, entry_legal, legal_at};
 
-use crate::decoding::{Decoded, entry_at};
-use crate::fields::{Command, command_of, pattern_length};
+use crate::decoding::entry_at;
+use crate::fields::{Command, Opcode, command_of, pattern_length};
 
 // Whether a BITBLT may have these fields, and whether a LINE or PLINE may.
 fn legal_blit(c: Command) -> bool
@@ -26,10 +26,12 @@ pub fn legal_cmd(word: u32) -> bool
     ensures { result ≡ cmd_legal word }
 {
     let c = command_of(word);
-    if c.is_blit() {
-        return (word % 16384 == 0) & legal_blit(c);
+    match c.opcode {
+        Opcode::Noop => word == 0,
+        Opcode::Blit => (word % 16384 == 0) & legal_blit(c),
+        Opcode::Line | Opcode::Polyline => (word % 16384 == 0) & legal_line(c),
+        Opcode::Unknown(_) => false,
     }
-    (word == 0) | ((word % 16384 == 0) & (c.is_line() & legal_line(c)))
 }
 
 pub fn legal_pctrl(word: u32) -> bool
@@ -39,6 +41,7 @@ pub fn legal_pctrl(word: u32) -> bool
     (word < 65536) & (word / 8192 % 8 <= word / 32 % 8) & (word / 256 % 32 < length)
 }
 
+// Kept: a register by its number, here and in fields.rt, as in Entry: `data_legal` judges every number.
 // Whether a register may hold a word. FORE, BACK, MASK and KEY are registers 1 to 4; LPAT and the points hold any word.
 pub fn legal_data(register: u32, word: u32) -> bool
     ensures { result ≡ data_legal register word }
@@ -73,7 +76,7 @@ pub fn legal_at(list: &[u8], place: usize) -> bool
     ensures { result ≡ legal_at list.now place }
 {
     match entry_at(list, place) {
-        Decoded::Whole(e) => legal_entry(e.register, e.spare, e.word),
-        Decoded::Nothing => false,
+        Some(e) => legal_entry(e.register, e.spare, e.word),
+        None => false,
     }
 }

@@ -6,8 +6,9 @@ mod decoding;
 mod fields;
 mod legality;
 
-pub use decoding::{Decoded, Entry, entry_at, join, word_at};
+pub use decoding::{Entry, entry_at, word_at};
 pub use fields::{
-    Command, PatternControl, TRIGGER, command_of, is_trigger, pattern_control_of, pattern_length,
+    Command, Opcode, PatternControl, TRIGGER, command_of, is_trigger, pattern_control_of,
+    pattern_length,
 };
 pub use legality::{legal_at, legal_cmd, legal_data, legal_entry, legal_pctrl};

@@ -3,22 +3,22 @@
 use mathlib.Core.Path.{◌≡◌, refl, ap, ap₂, sym, ◌∙◌}
 use mathlib.Core.Bool.{Bool, true, false, cond, ◌&&◌, ◌||◌}
 use mathlib.Core.List.{List}
-use Prim.Native.Nat.{ℕ, ◌+◌, ◌*◌, ◌/◌, ◌%◌, ◌-◌, ◌≤◌, ◌<◌}
+use Prim.Native.Nat.{ℕ, ◌+◌, ◌*◌, ◌/◌, ◌%◌, ◌≤◌, ◌<◌}
 use native.Mathlib.Omega.{arith}
-use borrow.Author.Tests.{leb-true, ltb-true, ltb-false, eq-eqb, ne_eqb}
-use lib.Dec.{eqb, leb, ltb}
+use borrow.Author.Tests.{leb-true, eq-eqb, ne_eqb}
+use lib.Dec.{eqb, leb}
 use lib.ListN.{length}
-use Rattle.lemmas.proofs.Booleans.{by_cases, and_left, and_right, both, or-none-left, or-none-right, of_either}
+use Rattle.lemmas.proofs.Booleans.{by_cases, and_left, and_right, both, of_either}
 use Rattle.answers.specs.Reports.{Report, report}
 use Rattle.lemmas.specs.Memory.{put_into}
 use Rattle.slots.specs.Calls.{Lent, leaves, holds_any, store_report}
 use Rattle.slots.specs.declared.record.Sizes.{Sizes}
 use Rattle.slots.specs.declared.record.Slot.{Slot}
-use Rattle.slots.proofs.Grounds.{NumberAlone, store-wrong-size, store-past, store-held, store-leaves, store-number, store-answers}
+use Rattle.slots.proofs.Grounds.{NumberAlone, store-wrong-size, store-past, store-held, store-done, store-leaves, store-number, store-answers}
 use Rattle.feeds.specs.declared.Feed.{Feed}
-use Rattle.feeds.specs.Feeds.{LentFeed, held_ok, feed_ok, joined, entries_in, completed, advanced, outcome, placed_by, by_store, feed_report, accepted}
+use Rattle.feeds.specs.Feeds.{LentFeed, held_ok, feed_ok, joined, entries_in, completed, advanced, outcome, by_store, feed_report, accepted}
 use Rattle.feeds.proofs.Bytes.{length-completed}
-use Rattle.feeds.proofs.Stores.{free_of, Fits, fits-done, accepted-fits}
+use Rattle.feeds.proofs.Stores.{Fits, fits-done, accepted-fits}
 
 pub good-next : (z : Sizes) (f : Feed) → feed_ok z f ≡ true → f.next ≤ z.entries
 good-next z f ok = leb-true f.next z.entries (and_right (held_ok f) (leb f.next z.entries) ok)
@@ -68,38 +68,24 @@ module _ (z : Sizes) (a p : Slot) (l : List ℕ) (f : Feed) (piece : List ℕ) w
       sized : (eqb (length l) (5 * z.entries) && eqb (length stored % 5) 0) ≡ true
       sized = both (eq-eqb (length l) (5 * z.entries) long) (eq-eqb (length stored % 5) 0 whole-entries)
 
-      pub feed-past : z.entries < f.next + entries_in J → report 4 0 0 ≡ F.report
-      feed-past h = by-lent (leaves 4 l) (store-past z a p l f.next stored sized (omega (arith, how-many)))
+      -- of as many entries as the code counts
+      module _ (n : ℕ) (many : entries_in J ≡ n) where
+        pub feed-past : z.entries < f.next + n → report 4 0 0 ≡ F.report
+        feed-past h = by-lent (leaves 4 l) (store-past z a p l f.next stored sized (omega (arith, how-many, many)))
 
-      module _ (fits : f.next + entries_in J ≤ z.entries) where
-        pub feed-held : (holds_any a f.next (entries_in J) || holds_any p f.next (entries_in J)) ≡ true → report 8 0 0 ≡ F.report
-        feed-held h =
-            by-lent (leaves 8 l)
-            (store-held z a p l f.next stored sized (omega (arith, how-many))
-            (ap (λ (k : ℕ). holds_any a f.next k || holds_any p f.next k) how-many ∙ h))
+        module _ (fits : f.next + n ≤ z.entries) where
+          counted : (holds_any a f.next (length stored / 5) || holds_any p f.next (length stored / 5))
+              ≡ (holds_any a f.next n || holds_any p f.next n)
+          counted = ap (λ (k : ℕ). holds_any a f.next k || holds_any p f.next k) (how-many ∙ many)
 
-        pub feed-done : (holds_any a f.next (entries_in J) || holds_any p f.next (entries_in J)) ≡ false → report 0 0 0 ≡ F.report
-        feed-done h =
-            let ta = holds_any a f.next (entries_in J) in
-            let tp = holds_any p f.next (entries_in J) in
-            let w : Fits z a p l f (entries_in J) =
-            (ok, long, fits, free_of a f.next (entries_in J) (or-none-left ta tp h), free_of p f.next (entries_in J) (or-none-right ta tp h)) in
-            sym (ap (λ r. r.report) (fits-done z a p l f piece w))
+          pub feed-held : (holds_any a f.next n || holds_any p f.next n) ≡ true → report 8 0 0 ≡ F.report
+          feed-held h =
+              by-lent (leaves 8 l) (store-held z a p l f.next stored sized (omega (arith, how-many, many)) (counted ∙ h))
 
-      -- the code's tests
-      pub feed-placed : (n : ℕ) (busy : Bool) → entries_in J ≡ n → busy ≡ (holds_any a f.next n || holds_any p f.next n)
-          → placed_by (ltb (z.entries - f.next) n) busy ≡ F.report
-      feed-placed n busy e h =
-          by_cases (ltb (z.entries - f.next) n)
-          (λ t. ap (λ (t : Bool). placed_by t busy) t ∙ feed-past (omega (arith, ltb-true (z.entries - f.next) n t, e, good-next z f ok)))
-          (λ t. ap (λ (t : Bool). placed_by t busy) t ∙ within (omega (arith, ltb-false (z.entries - f.next) n t, e, good-next z f ok)) busy refl)
-        where
-          same : busy ≡ (holds_any a f.next (entries_in J) || holds_any p f.next (entries_in J))
-          same = h ∙ ap (λ (k : ℕ). holds_any a f.next k || holds_any p f.next k) (sym e)
-
-          within : f.next + entries_in J ≤ z.entries → (b : Bool) → busy ≡ b → placed_by false b ≡ F.report
-          within fits true g = feed-held fits (sym same ∙ g)
-          within fits false g = feed-done fits (sym same ∙ g)
+          pub feed-done : (holds_any a f.next n || holds_any p f.next n) ≡ false → report 0 0 0 ≡ F.report
+          feed-done h =
+              by-lent (leaves 0 (put_into l (5 * f.next) stored))
+              (store-done z a p l f.next stored sized (omega (arith, how-many, many)) (counted ∙ h) _ refl)
 
   -- "Refusals, which hand both records back as given", and memory as it was
   store-refused : (S.report.number ≡ 0 → ⊥) → by_store S f (advanced f J) ≡ outcome S.report f l
@@ -129,10 +115,10 @@ module _ (z : Sizes) (a p : Slot) (l : List ℕ) (f : Feed) (piece : List ℕ) w
     pub ends-room : 5 * f.next + 5 * entries_in J ≤ length l
     ends-room = omega (arith, ends-fit.1, ends-fit.2)
 
-    pub ends-done : (g : Feed) (m : List ℕ) → g ≡ advanced f J → m ≡ put_into l (5 * f.next) stored → outcome h g m ≡ F
+    pub ends-done : (g : Feed) (m : List ℕ) → g ≡ advanced f J → m ≡ put_into l (5 * f.next) stored → outcome (report 0 0 0) g m ≡ F
     ends-done g m after put =
         let done = fits-done z a p l f piece ends-fit in
-        ap (λ (t : Report). outcome t g m) (e ∙ ap (λ r. r.report) done) ∙ ap₂ (outcome (report 0 0 0)) after put ∙ sym done
+        ap₂ (outcome (report 0 0 0)) after put ∙ sym done
 
   -- an accepted piece's store
   pub feed-stores : accepted F ≡ true → S ≡ leaves 0 F.memory

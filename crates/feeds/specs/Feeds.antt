@@ -1,11 +1,11 @@
 -- Lists over the serial line (02, R-5): what a piece of bytes does, by the store that it counts as.
-use Rattle.std.specs.Prelude.{Bool, cond, ◌&&◌, ◌||◌, List, ◌++◌, ℕ, ◌+◌, ◌*◌, ◌/◌, eqb, leb, ltb, length, get_or, take, drop, replicate}
+use Rattle.std.specs.Prelude.{Bool, cond, ◌&&◌, ◌||◌, List, ◌++◌, ℕ, ◌+◌, ◌*◌, ◌/◌, eqb, leb, ltb, length, get_or, take, drop, replicate, Result, Ok, Err}
 use Rattle.answers.specs.Reports.{Report, report, report_of}
+use Rattle.answers.specs.declared.Refusal.{Refusal}
 use Rattle.slots.specs.Calls.{Lent, store_report}
 use Rattle.slots.specs.declared.record.Sizes.{Sizes}
 use Rattle.slots.specs.declared.record.Slot.{Slot}
 use Rattle.feeds.specs.declared.Feed.{Feed}
-use Rattle.feeds.specs.declared.FeedResult.{FeedResult}
 
 -- "the unused ones zero"
 abbrev pub no_bytes : List ℕ
@@ -57,12 +57,10 @@ pub record LentFeed : Type 0 where
 abbrev pub outcome : Report → Feed → List ℕ → LentFeed
 outcome report feed memory = record { report = report; feed = feed; memory = memory }
 
-abbrev pub lent_feed : FeedResult → List ℕ → LentFeed
-lent_feed r memory = outcome (report_of r.status) r.feed memory
-
--- Of entries past the end, or held by a slot: 4 comes first.
-abbrev pub placed_by : Bool → Bool → Report
-placed_by past busy = cond past (report 4 0 0) (cond busy (report 8 0 0) (report 0 0 0))
+-- The feed record after a piece that is accepted; the one that was given stays where it is refused.
+abbrev pub lent_feed : Feed → Result Feed Refusal → List ℕ → LentFeed
+lent_feed given (Ok after) memory = outcome (report 0 0 0) after memory
+lent_feed given (Err refusal) memory = outcome (report_of (Err refusal)) given memory
 
 -- "Each completed entry goes into list memory" by a store, which takes the feed record on where it is done and leaves it as given
 -- where it is refused.

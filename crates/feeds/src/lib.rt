@@ -7,23 +7,16 @@ ghost use Rattle.feeds.specs.Feeds.{start_at, feed_ok};
 
 mod pieces;
 
-use answers::Status;
 pub use pieces::feed_into;
 use slots::Sizes;
 
 // The next list entry, and up to four held bytes of an unfinished one; the unused bytes are zero.
+// Kept: `held` and `count`, since a record whose unused bytes are not zero is malformed (`feed_ok`), and C lends the three fields.
 #[derive(Clone, Copy)]
 pub struct Feed {
     pub next: u64,
     pub held: [u8; 4],
     pub count: u32,
-}
-
-// What a feed answers, and the feed record after it.
-#[derive(Clone, Copy)]
-pub struct FeedResult {
-    pub status: Status,
-    pub feed: Feed,
 }
 
 impl Feed {

@@ -8,10 +8,9 @@ use native.Mathlib.Omega.{arith}
 use borrow.Author.Tests.{lt-ltb, le-ltb}
 use lib.IntN.{◌+ℤ◌, ◌-ℤ◌}
 use Rattle.geometry.specs.Coordinates.{origin, whole_of, signed16, coordinate_of, point_of}
-use Rattle.geometry.specs.Blit.{width_of, height_of, blit_count, bottom_to_top, right_to_left, column_of, row_of, blit_cell, away, away_z, blit_point, cell_visit, NeverWraps}
+use Rattle.geometry.specs.Blit.{width_of, height_of, blit_count, bottom_to_top, right_to_left, column_of, row_of, cell, blit_cell, away, away_z, blit_point, cell_visit, NeverWraps}
 use Rattle.geometry.specs.declared.Point.{Point}
-use Rattle.geometry.specs.declared.Cell.TheVariants.{At as CellAt, Past as CellPast}
-use Rattle.geometry.specs.declared.Visit.TheVariants.{At}
+use Rattle.std.specs.Prelude.{Some, None}
 use Rattle.geometry.proofs.Integers.{sub_same, sub-zero, sub-add, sub-sub}
 use Rattle.geometry.proofs.Whole.{signed}
 
@@ -51,15 +50,15 @@ never-wraps word size direction k hw hs l = (
 
 -- a visit's cell, by the test that it passes
 module _ (size k : ℕ) where
-  pub cell-past : blit_count size ≤ k → CellPast ≡ blit_cell size k
+  pub cell-past : blit_count size ≤ k → None ≡ blit_cell size k
   unfolding blit_cell
   cell-past h = rw (le-ltb k (blit_count size) h)
 
-  pub cell_at : k < blit_count size → CellAt (column_of size k) (row_of size k) ≡ blit_cell size k
+  pub cell_at : k < blit_count size → Some (cell (column_of size k) (row_of size k)) ≡ blit_cell size k
   unfolding blit_cell
   cell_at h = rw (lt-ltb k (blit_count size) h)
 
 -- the pixel of a visit within the blit
 pub cell-visit : (corner : Point) (size direction k : ℕ) → k < blit_count size
-    → cell_visit corner direction (blit_cell size k) ≡ At (blit_point corner size direction k)
+    → cell_visit corner direction (blit_cell size k) ≡ Some (blit_point corner size direction k)
 cell-visit corner size direction k h = ap (cell_visit corner direction) (sym (cell_at size k h))

@@ -6,13 +6,13 @@ use mathlib.Core.Bool.{Bool, true, false, ◌&&◌}
 use Prim.Native.Nat.{ℕ, zero, suc, ◌+◌, ◌-◌, ◌*◌, ◌/◌, ◌%◌, ◌≤◌, ◌<◌, max}
 use native.Mathlib.Nat.{mul-le-mul, mul-le-mul_left, add-mul, mul-add, mul_assoc, mul_comm, mul-suc, zero-mul, le_antisymm, div-add-mod, mod-lt}
 use native.Mathlib.Omega.{arith}
-use borrow.Author.Tests.{eqb-true, eqb-false, eq-eqb, ne_eqb, leb-true, leb-false, le-leb, lt-ltb, le-ltb}
+use borrow.Author.Tests.{eqb-true, eqb-false, eq-eqb, ne_eqb, leb-true, leb-false, le-leb, lt-ltb}
 use lib.Dec.{eqb, leb, ltb, ltb→lt, nltb→le, not_T}
 use Rattle.lemmas.proofs.Booleans.{by_cases}
 use Rattle.geometry.specs.Coordinates.{coordinate_of, point_of}
 use Rattle.geometry.specs.Line.{distance, steps_of, line_count, exact, nearest_of, line_point, line_visit, x_major, towards, OneAtEach, FromAToB, PointsDiffer}
 use Rattle.geometry.specs.declared.Point.{Point}
-use Rattle.geometry.specs.declared.Visit.TheVariants.{At, Past}
+use Rattle.std.specs.Prelude.{Some}
 use Rattle.geometry.proofs.Whole.{x-within, y-within}
 
 pub nearest_zero : (n i a b : ℕ) → n ≡ 0 → nearest_of n i a b ≡ a
@@ -138,11 +138,7 @@ steps-lt v w = omega (arith, x-within v, x-within w, y-within v, y-within w)
 
 -- a visit by the test that it passes
 module _ (a b : Point) (nlst : Bool) (k : ℕ) where
-  pub line-past : line_count a b nlst ≤ k → Past ≡ line_visit a b nlst k
-  unfolding line_visit
-  line-past h = rw (le-ltb k (line_count a b nlst) h)
-
-  pub line_at : k < line_count a b nlst → At (line_point a b k) ≡ line_visit a b nlst k
+  pub line_at : k < line_count a b nlst → Some (line_point a b k) ≡ line_visit a b nlst k
   unfolding line_visit
   line_at h = rw (lt-ltb k (line_count a b nlst) h)
 

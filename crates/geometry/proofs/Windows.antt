@@ -7,20 +7,11 @@ use native.Mathlib.Omega.{arith}
 use borrow.Author.Tests.{leb-true, ltb-true, le-leb, lt-ltb}
 use lib.Dec.{leb, ltb}
 use Rattle.lemmas.proofs.Booleans.{and_left, and_right, both}
-use Rattle.geometry.specs.Coordinates.{origin, point_of}
+use Rattle.geometry.specs.Coordinates.{origin}
 use Rattle.geometry.specs.Clip.{rect_of, in_rect, in_buffer, window_of, in_window, WindowLetsThrough}
 use Rattle.geometry.specs.declared.Point.{Point}
 use Rattle.geometry.specs.declared.Rect.{Rect}
 use Rattle.geometry.specs.declared.Window.{Window}
-
--- a corner's coordinates are small
-pub right-most : (a b : ℕ) → (rect_of a b).right < 131072
-unfolding point_of
-right-most a b = omega arith
-
-pub bottom-most : (a b : ℕ) → (rect_of a b).bottom < 131072
-unfolding point_of
-bottom-most a b = omega arith
 
 -- two tests that follow from each other are one
 same_test : (a b : Bool) → (a ≡ true → b ≡ true) → (b ≡ true → a ≡ true) → a ≡ b

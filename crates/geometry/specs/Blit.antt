@@ -1,12 +1,9 @@
 -- The pixels of a blit (01, Pixels), from the corner that the direction asks for (003, 6.2).
-use Rattle.std.specs.Prelude.{◌≡◌, Bool, cond, List, map, ℕ, ◌+◌, ◌-◌, ◌*◌, ◌/◌, ◌%◌, ◌<◌, eqb, ltb, ℤ, pos, ◌+ℤ◌, ◌-ℤ◌}
+use Rattle.std.specs.Prelude.{◌≡◌, Bool, cond, List, map, ℕ, ◌+◌, ◌-◌, ◌*◌, ◌/◌, ◌%◌, ◌<◌, eqb, ltb, ℤ, pos, ◌+ℤ◌, ◌-ℤ◌, Option, Some, None}
 use Rattle.lemmas.specs.Numbers.{below}
 use Rattle.geometry.specs.Coordinates.{whole_of, signed16, point_of}
 use Rattle.geometry.specs.declared.Point.{Point}
 use Rattle.geometry.specs.declared.Cell.{Cell}
-use Rattle.geometry.specs.declared.Cell.TheVariants.{At as CellAt, Past as CellPast}
-use Rattle.geometry.specs.declared.Visit.{Visit}
-use Rattle.geometry.specs.declared.Visit.TheVariants.{At, Past}
 
 -- "XY2: width, then height"
 abbrev pub width_of : ℕ → ℕ
@@ -36,10 +33,14 @@ column_of size k = k % width_of size
 abbrev pub row_of : ℕ → ℕ → ℕ
 row_of size k = k / width_of size
 
-unfoldable pub blit_cell : ℕ → ℕ → Cell
-blit_cell size k = cond (ltb k (blit_count size)) (CellAt (column_of size k) (row_of size k)) CellPast
+abbrev pub cell : ℕ → ℕ → Cell
+cell column row = record { column = column; row = row }
 
-abbrev pub blit_cells : ℕ → List Cell
+-- the cell of visit k, where there is one
+unfoldable pub blit_cell : ℕ → ℕ → Option Cell
+blit_cell size k = cond (ltb k (blit_count size)) (Some (cell (column_of size k) (row_of size k))) None
+
+abbrev pub blit_cells : ℕ → List (Option Cell)
 blit_cells size = map (blit_cell size) (below (blit_count size))
 
 -- The pixel of a cell, from a corner on; source and destination have the same cells.
@@ -47,9 +48,9 @@ abbrev pub cell_point : Point → ℕ → ℕ → ℕ → Point
 cell_point corner direction column row =
     record { x = away (right_to_left direction) corner.x column; y = away (bottom_to_top direction) corner.y row }
 
-abbrev pub cell_visit : Point → ℕ → Cell → Visit
-cell_visit corner direction (CellAt column row) = At (cell_point corner direction column row)
-cell_visit corner direction CellPast = Past
+abbrev pub cell_visit : Point → ℕ → Option Cell → Option Point
+cell_visit corner direction (Some c) = Some (cell_point corner direction c.column c.row)
+cell_visit corner direction None = None
 
 -- The pixel of visit k.
 abbrev pub blit_point : Point → ℕ → ℕ → ℕ → Point

@@ -1,12 +1,10 @@
 -- The clip rectangle and the buffer's bounds (01, Pixels, and What the engine has).
-use Rattle.std.specs.Prelude.{◌≡◌, Bool, true, false, not, cond, ◌&&◌, ◌⊎◌, ℕ, ◌+◌, ◌-◌, ◌*◌, ◌<◌, min, max, leb, ltb}
+use Rattle.std.specs.Prelude.{◌≡◌, Bool, true, false, not, cond, ◌&&◌, ◌⊎◌, ℕ, ◌+◌, ◌-◌, ◌*◌, ◌<◌, min, max, leb, ltb, Option, Some, None}
 use Rattle.geometry.specs.Coordinates.{origin, point_of}
 use Rattle.geometry.specs.declared.Extent.{Extent}
 use Rattle.geometry.specs.declared.Point.{Point}
 use Rattle.geometry.specs.declared.Rect.{Rect}
 use Rattle.geometry.specs.declared.Window.{Window}
-use Rattle.geometry.specs.declared.Place.{Place}
-use Rattle.geometry.specs.declared.Place.TheVariants.{At, Outside}
 
 -- CLPTL to CLPBR
 abbrev pub rect_of : ℕ → ℕ → Rect
@@ -30,8 +28,8 @@ in_buffer width height p = leb origin p.x && leb origin p.y && ltb (p.x - origin
 abbrev pub place_in : ℕ → Point → ℕ
 place_in width p = (p.y - origin) * width + (p.x - origin)
 
-unfoldable pub place_of : Extent → Point → Place
-place_of extent p = cond (in_buffer extent.width extent.height p) (At (place_in extent.width p)) Outside
+unfoldable pub place_of : Extent → Point → Option ℕ
+place_of extent p = cond (in_buffer extent.width extent.height p) (Some (place_in extent.width p)) None
 
 -- What clip and buffer let through, as one window: left <= x < right and top <= y < bottom.
 unfoldable pub window_of : Extent → Bool → ℕ → ℕ → Window
@@ -61,7 +59,7 @@ abbrev pub ReversedHoldsNothing : Type 0
 ReversedHoldsNothing = (r : Rect) → (r.right < r.left) ⊎ (r.bottom < r.top) → (p : Point) → in_rect r p ≡ false
 
 abbrev pub PlacesFit : Type 0
-PlacesFit = (extent : Extent) (p : Point) (i : ℕ) → place_of extent p ≡ At i → i < extent.width * extent.height
+PlacesFit = (extent : Extent) (p : Point) (i : ℕ) → place_of extent p ≡ Some i → i < extent.width * extent.height
 
 abbrev pub PlacesDiffer : Type 0
 PlacesDiffer =

@@ -1,9 +1,7 @@
 -- The pixels of a line (01, Pixels), from A to B.
-use Rattle.std.specs.Prelude.{◌≡◌, Bool, true, false, cond, ℕ, ◌+◌, ◌-◌, ◌*◌, ◌/◌, ◌≤◌, ◌<◌, max, eqb, leb, ltb, ℤ, pos, neg_ℤ, ◌+ℤ◌, ◌-ℤ◌, ◌*ℤ◌, ◌≤ℤ◌, ◌<ℤ◌}
+use Rattle.std.specs.Prelude.{◌≡◌, Bool, true, false, cond, ℕ, ◌+◌, ◌-◌, ◌*◌, ◌/◌, ◌≤◌, ◌<◌, max, eqb, leb, ltb, ℤ, pos, neg_ℤ, ◌+ℤ◌, ◌-ℤ◌, ◌*ℤ◌, ◌≤ℤ◌, ◌<ℤ◌, Option, Some, None}
 use Rattle.geometry.specs.Coordinates.{whole_of}
 use Rattle.geometry.specs.declared.Point.{Point}
-use Rattle.geometry.specs.declared.Visit.{Visit}
-use Rattle.geometry.specs.declared.Visit.TheVariants.{At, Past}
 
 abbrev pub distance : ℕ → ℕ → ℕ
 distance a b = (a - b) + (b - a)
@@ -33,8 +31,9 @@ nearest_of n i a b = cond (eqb n 0) a ((2 * exact n i a b + n - 1) / (2 * n))
 abbrev pub line_point : Point → Point → ℕ → Point
 line_point a b i = record { x = nearest_of (steps_of a b) i a.x b.x; y = nearest_of (steps_of a b) i a.y b.y }
 
-unfoldable pub line_visit : Point → Point → Bool → ℕ → Visit
-line_visit a b nlst k = cond (ltb k (line_count a b nlst)) (At (line_point a b k)) Past
+-- the pixel of visit k, where there is one
+unfoldable pub line_visit : Point → Point → Bool → ℕ → Option Point
+line_visit a b nlst k = cond (ltb k (line_count a b nlst)) (Some (line_point a b k)) None
 
 -- What document 01 says of these pixels; proved in proofs/LineRule.antt, in whole numbers, and proofs/Lines.antt.
 

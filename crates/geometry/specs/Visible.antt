@@ -1,12 +1,11 @@
 -- The part of a blit that clip and buffer let through (02, R-6): "only destination pixels inside the buffer and, with CLIP,
 -- inside the clip, in the same order as before".
-use Rattle.std.specs.Prelude.{◌≡◌, Bool, true, false, cond, ◌&&◌, List, [], ◌∷◌, map, ℕ, ◌+◌, ◌-◌, ◌*◌, ◌/◌, ◌%◌, ◌≤◌, ◌<◌, min, eqb, leb, ltb}
+use Rattle.std.specs.Prelude.{◌≡◌, Bool, true, false, cond, ◌&&◌, List, [], ◌∷◌, map, ℕ, ◌+◌, ◌-◌, ◌*◌, ◌/◌, ◌%◌, ◌≤◌, ◌<◌, min, eqb, leb, ltb, Option, Some, None}
 use Rattle.lemmas.specs.Numbers.{below, filtered}
 use Rattle.geometry.specs.Coordinates.{point_of}
 use Rattle.geometry.specs.Clip.{window_of, in_window}
-use Rattle.geometry.specs.Blit.{width_of, height_of, blit_count, bottom_to_top, right_to_left, blit_cell, blit_cells, cell_point}
+use Rattle.geometry.specs.Blit.{width_of, height_of, blit_count, bottom_to_top, right_to_left, cell, blit_cell, blit_cells, cell_point}
 use Rattle.geometry.specs.declared.Cell.{Cell}
-use Rattle.geometry.specs.declared.Cell.TheVariants.{At, Past}
 use Rattle.geometry.specs.declared.Extent.{Extent}
 use Rattle.geometry.specs.declared.Point.{Point}
 use Rattle.geometry.specs.declared.Window.{Window}
@@ -14,9 +13,9 @@ use Rattle.geometry.specs.declared.visible.Range.{Range}
 use Rattle.geometry.specs.declared.visible.Part.{Part}
 
 -- Whether a window shows the pixel of a cell, from a corner on.
-abbrev pub cell_shows : Window → Point → ℕ → Cell → Bool
-cell_shows w corner direction (At column row) = in_window w (cell_point corner direction column row)
-cell_shows w corner direction Past = false
+abbrev pub cell_shows : Window → Point → ℕ → Option Cell → Bool
+cell_shows w corner direction (Some c) = in_window w (cell_point corner direction c.column c.row)
+cell_shows w corner direction None = false
 
 -- The j below n whose pixel, j from c on or back, is at low <= x < high.
 unfoldable pub visible_range : Bool → ℕ → ℕ → ℕ → ℕ → Range
@@ -61,10 +60,10 @@ visible_index corner size direction w k =
     let p = visible_part corner size direction w in
     cond (ltb k (cell_count p)) (index_in size p k) (blit_count size)
 
-abbrev pub visible_cell : Point → ℕ → ℕ → Window → ℕ → Cell
+abbrev pub visible_cell : Point → ℕ → ℕ → Window → ℕ → Option Cell
 visible_cell corner size direction w k = blit_cell size (visible_index corner size direction w k)
 
-abbrev pub visible_cells : Point → ℕ → ℕ → Window → List Cell
+abbrev pub visible_cells : Point → ℕ → ℕ → Window → List (Option Cell)
 visible_cells corner size direction w = map (visible_cell corner size direction w) (below (visible_count corner size direction w))
 
 -- What the index of a visible cell needs to be worked out.
@@ -104,7 +103,7 @@ HugeClear = visible_count (point_of 0xFC18_FC18) 0x0800_0800 0 (window_of small 
 abbrev pub UpAndLeft : Type 0
 UpAndLeft =
     visible_cells (point_of 0x0009_0005) 0x0004_0004 3 (window_of small false 0 0)
-    ≡ (At 2 2 ∷ At 3 2 ∷ At 2 3 ∷ At 3 3 ∷ [])
+    ≡ map Some (cell 2 2 ∷ cell 3 2 ∷ cell 2 3 ∷ cell 3 3 ∷ [])
 
 abbrev pub NothingVisible : Type 0
 NothingVisible = visible_count (point_of 0x0000_0000) 0x0008_0004 0 (window_of small true 0x0003_0003 0x0002_0002) ≡ 0

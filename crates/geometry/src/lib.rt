@@ -11,8 +11,7 @@ ghost use Rattle.geometry.specs.Clip.{rect_of, in_rect, window_of, in_window, pl
 ghost use Rattle.geometry.specs.Line.{distance, steps_of, line_count, nearest_of, line_visit};
 ghost use Rattle.geometry.specs.Blit.{blit_count, blit_cell, away, cell_visit};
 
-use numbers::{max, min};
-pub use visible::{Range, visible_count, visible_index};
+pub use visible::{Part, Range, visible_count, visible_index};
 
 // Coordinates are held 98,304 up: this is the coordinate 0.
 pub const ORIGIN: usize = 98304;
@@ -38,6 +37,7 @@ fn coordinate(half: u32) -> usize
 }
 
 // The point in a register: x in the high half, y in the low half.
+#[tactic(auto, unfolding(crate::specs::Coordinates::point_of))]
 pub fn point_of(word: u32) -> Point
     ensures { result ≡ point_of word }
 {
@@ -79,6 +79,7 @@ impl Rect {
 }
 
 // The part of a buffer that clip and buffer let through: left <= x < right and top <= y < bottom.
+// Kept: no Rect, whose right and bottom are inside.
 #[derive(Clone, Copy)]
 pub struct Window {
     pub left: usize,
@@ -88,7 +89,7 @@ pub struct Window {
 }
 
 impl Window {
-    pub(crate) fn contains(self, p: Point) -> bool
+    pub fn contains(self, p: Point) -> bool
         ensures { result ≡ in_window self p }
     {
         (self.left <= p.x) & (p.x < self.right) & (self.top <= p.y) & (p.y < self.bottom)
@@ -96,6 +97,7 @@ impl Window {
 }
 
 // The window of a buffer, and of the clip rectangle where `clip` is set.
+#[tactic(auto, unfolding(crate::specs::Clip::window_of, crate::specs::Coordinates::point_of))]
 pub fn window_of(extent: Extent, clip: bool, top_left: u32, bottom_right: u32) -> Window
     ensures { result ≡ window_of extent clip top_left bottom_right }
 {
@@ -104,10 +106,10 @@ pub fn window_of(extent: Extent, clip: bool, top_left: u32, bottom_right: u32) -
     if clip {
         let c = rect_of(top_left, bottom_right);
         return Window {
-            left: max(ORIGIN, c.left),
-            right: min(right, c.right + 1),
-            top: max(ORIGIN, c.top),
-            bottom: min(bottom, c.bottom + 1),
+            left: ORIGIN.max(c.left),
+            right: right.min(c.right + 1),
+            top: ORIGIN.max(c.top),
+            bottom: bottom.min(c.bottom + 1),
         };
     }
     Window {
@@ -118,46 +120,20 @@ pub fn window_of(extent: Extent, clip: bool, top_left: u32, bottom_right: u32) -
     }
 }
 
-// A pixel's place in its buffer.
-#[derive(Clone, Copy)]
-pub enum Place {
-    At(usize),
-    Outside,
-}
-
-// The place of a point in a buffer.
-pub fn place_of(extent: Extent, p: Point) -> Place
+// The place of a point in a buffer, if it lies in it.
+#[tactic(auto, unfolding(crate::specs::Clip::place_of))]
+pub fn place_of(extent: Extent, p: Point) -> Option<usize>
     ensures { result ≡ place_of extent p }
 {
-    if p.x < ORIGIN {
-        return Place::Outside;
-    }
-    if p.y < ORIGIN {
-        return Place::Outside;
-    }
-    let x = p.x - ORIGIN;
-    let y = p.y - ORIGIN;
+    let x = p.x.checked_sub(ORIGIN)?;
+    let y = p.y.checked_sub(ORIGIN)?;
     if extent.width as usize <= x {
-        return Place::Outside;
+        return None;
     }
     if extent.height as usize <= y {
-        return Place::Outside;
+        return None;
     }
-    Place::At(y * (extent.width as usize) + x)
-}
-
-// Where visit k of a command lies.
-#[derive(Clone, Copy)]
-pub enum Visit {
-    At(Point),
-    // The command has no more than k pixels.
-    Past,
-}
-
-fn distance_of(a: usize, b: usize) -> usize
-    ensures { result ≡ distance a b }
-{
-    if a <= b { b - a } else { a - b }
+    Some(y * (extent.width as usize) + x)
 }
 
 // n, the number of steps from one end of a line to the other.
@@ -166,10 +142,11 @@ pub fn line_steps(from: u32, to: u32) -> usize
 {
     let a = point_of(from);
     let b = point_of(to);
-    max(distance_of(a.x, b.x), distance_of(a.y, b.y))
+    a.x.abs_diff(b.x).max(a.y.abs_diff(b.y))
 }
 
 // How many pixels a line visits; skip_last is NLST.
+#[tactic(auto, unfolding(crate::specs::Coordinates::point_of))]
 pub fn line_count(from: u32, to: u32, skip_last: bool) -> usize
     ensures { result ≡ line_count (point_of from) (point_of to) skip_last }
 {
@@ -178,6 +155,7 @@ pub fn line_count(from: u32, to: u32, skip_last: bool) -> usize
 }
 
 // One coordinate of pixel i of a line of n steps from a to b.
+#[tactic(auto, unfolding(crate::specs::Line::nearest_of))]
 fn nearest(n: usize, i: usize, a: usize, b: usize) -> usize
     requires { (n < 65536) × (i ≤ n) × (a < 131072) × (b < 131072) }
     ensures { result ≡ nearest_of n i a b }
@@ -189,19 +167,20 @@ fn nearest(n: usize, i: usize, a: usize, b: usize) -> usize
     (2 * e + n - 1) / (2 * n)
 }
 
-// Where visit k of a line lies.
-pub fn line_visit(from: u32, to: u32, skip_last: bool, k: usize) -> Visit
+// Where visit k of a line lies, if it has one.
+#[tactic(auto, unfolding(crate::specs::Line::line_visit, crate::specs::Coordinates::point_of))]
+pub fn line_visit(from: u32, to: u32, skip_last: bool, k: usize) -> Option<Point>
     ensures { result ≡ line_visit (point_of from) (point_of to) skip_last k }
 {
     if line_count(from, to, skip_last) <= k {
-        return Visit::Past;
+        return None;
     }
     let n = line_steps(from, to);
     let a = point_of(from);
     let b = point_of(to);
     let x = nearest(n, k, a.x, b.x);
     let y = nearest(n, k, a.y, b.y);
-    Visit::At(Point { x, y })
+    Some(Point { x, y })
 }
 
 // How many pixels a blit visits, from XY2: width x height.
@@ -213,23 +192,24 @@ pub fn blit_count(size: u32) -> usize
 
 // Where a visit lies in the rectangle of a blit: column and row, counted from the corner.
 #[derive(Clone, Copy)]
-pub enum Cell {
-    At(u32, u32),
-    // The blit has no such visit.
-    Past,
+pub struct Cell {
+    pub column: u32,
+    pub row: u32,
 }
 
-// The cell of visit k of a blit.
-pub fn blit_cell(size: u32, k: usize) -> Cell
+// The cell of visit k of a blit, if it has one.
+#[tactic(auto, unfolding(crate::specs::Blit::blit_cell))]
+pub fn blit_cell(size: u32, k: usize) -> Option<Cell>
     ensures { result ≡ blit_cell size k }
 {
     if blit_count(size) <= k {
-        return Cell::Past;
+        return None;
     }
     let width = (size / 65536) as usize;
-    let column = k % width;
-    let row = k / width;
-    Cell::At(column as u32, row as u32)
+    Some(Cell {
+        column: (k % width) as u32,
+        row: (k / width) as u32,
+    })
 }
 
 // The coordinate k pixels from c, up or back, which stops at 0.
@@ -237,21 +217,22 @@ fn moved(back: bool, c: usize, k: u32) -> usize
     requires { c < 131072 }
     ensures { result ≡ away back c k }
 {
-    if !back {
-        return c + k as usize;
+    if back {
+        c.saturating_sub(k as usize)
+    } else {
+        c + k as usize
     }
-    if c <= k as usize { 0 } else { c - k as usize }
 }
 
 // The pixel of a cell, from the corner of the source rectangle or of the destination rectangle.
-pub fn cell_visit(corner: u32, direction: u32, cell: Cell) -> Visit
+// Kept: the direction is XY3's word, here and in visible.rt: `cell_visit` and `visible_count` answer at every word.
+#[tactic(auto, unfolding(crate::specs::Coordinates::point_of))]
+pub fn cell_visit(corner: u32, direction: u32, cell: Option<Cell>) -> Option<Point>
     ensures { result ≡ cell_visit (point_of corner) direction cell }
 {
-    let Cell::At(column, row) = cell else {
-        return Visit::Past;
-    };
+    let at = cell?;
     let c = point_of(corner);
-    let x = moved(direction / 2 % 2 == 1, c.x, column);
-    let y = moved(direction % 2 == 1, c.y, row);
-    Visit::At(Point { x, y })
+    let x = moved(direction / 2 % 2 == 1, c.x, at.column);
+    let y = moved(direction % 2 == 1, c.y, at.row);
+    Some(Point { x, y })
 }

@@ -1,5 +1,6 @@
 -- A visit of a blit is the one that the row loops draw.
 -- Assumes nothing.
+use Rattle.std.specs.Prelude.{Option, Some, None}
 use mathlib.Core.Path.{◌≡◌, refl, ap, ap₂, sym, ◌∙◌}
 use mathlib.Core.Bool.{Bool, true, false, not, cond, ◌&&◌, ◌||◌, and-true}
 use mathlib.Core.List.{List}
@@ -9,6 +10,7 @@ use native.Mathlib.Omega.{arith}
 use lib.Dec.{eqb}
 use lib.ListN.{get_or, set}
 use lib.Seq.{set-get_or}
+use Rattle.std.specs.Bool.{then_some}
 use Rattle.lemmas.proofs.Booleans.{by_cases, and_right}
 use Rattle.raster.specs.Raster.{bit, new_byte}
 use Rattle.raster.specs.Selectors.{drawn, selected}
@@ -17,14 +19,11 @@ use Rattle.geometry.specs.Coordinates.{origin, point_of}
 use Rattle.geometry.specs.Clip.{in_buffer, place_of, in_window, place_in}
 use Rattle.geometry.specs.Blit.{blit_count, cell_visit, blit_point}
 use Rattle.geometry.specs.declared.Point.{Point}
-use Rattle.geometry.specs.declared.Place.{Place}
-use Rattle.geometry.specs.declared.Place.TheVariants.{At, Outside}
-use Rattle.geometry.specs.declared.Visit.TheVariants.{At as VisitAt}
 use Rattle.geometry.proofs.Blits.{cell-visit}
 use Rattle.geometry.proofs.Stretches.{visible-lt}
 use Rattle.geometry.proofs.Windows.{window-lets-through, buffer-of}
-use Rattle.rows.specs.Rows.{mixed}
-use Rattle.stipples.specs.Stipples.{bit_at, stippled}
+use Rattle.rows.specs.Rows.{is_key, mixed}
+use Rattle.stipples.specs.Stipples.{bit_at, drawn_if, stippled}
 use Rattle.blits.specs.Blits.{painted, reads, source_pixels, visited}
 use Rattle.blits.specs.declared.Paint.{Paint}
 use Rattle.blits.specs.declared.Paint.TheVariants.{Solid, Copied, Moved, Stippled, StippledWithin}
@@ -40,22 +39,20 @@ use Rattle.blits.proofs.Planes.{plane-at}
 use Rattle.commands.specs.Steps.{inked}
 use Rattle.leaps.specs.Leaps.{pen_in, mix_in, stipple_in, from_other, from_own, paint_of, blit_in, tiling_in, index_of}
 use Rattle.commands.specs.declared.Engine.{Engine}
-use Rattle.sources.specs.declared.Source.{Source}
-use Rattle.sources.specs.declared.Source.TheVariants.{Value, Nothing}
 use Rattle.geometry.specs.declared.Extent.{Extent}
 
 -- a place, by two tests and by one
-one-test : (t u : Bool) (p : Place) → cond t Outside (cond u p Outside) ≡ cond (not t && u) p Outside
+one-test : (t u : Bool) (p : Option ℕ) → cond t None (cond u p None) ≡ cond (not t && u) p None
 one-test true u p = refl
 one-test false u p = refl
 
 -- the place of a visit that lies at a point
-pub place-of-visit : (extent : Extent) (e : Engine) (k : ℕ) (p : Point) → visit_at extent e k ≡ VisitAt p
-    → target_of extent e k ≡ cond (in_window (window_in extent e.registers) p) (At (place_in extent.width p)) Outside
+pub place-of-visit : (extent : Extent) (e : Engine) (k : ℕ) (p : Point) → visit_at extent e k ≡ Some p
+    → target_of extent e k ≡ cond (in_window (window_in extent e.registers) p) (Some (place_in extent.width p)) None
 unfolding place_of
 place-of-visit extent e k p h =
-    ap (through_to extent e.registers) h ∙ one-test (clipped_out e.registers p) (in_buffer extent.width extent.height p) (At (place_in extent.width p))
-    ∙ ap (λ t. cond t (At (place_in extent.width p)) Outside)
+    ap (through_to extent e.registers) h ∙ one-test (clipped_out e.registers p) (in_buffer extent.width extent.height p) (Some (place_in extent.width p))
+    ∙ ap (λ t. cond t (Some (place_in extent.width p)) None)
     (sym (window-lets-through extent (command_in e).clip e.registers.clptl e.registers.clpbr p))
 
 module _ (extent : Extent) (e : Engine) (k : ℕ) (blit : is_blit (command_in e) ≡ true) (few : k < count_of extent e) where
@@ -78,25 +75,25 @@ module _ (extent : Extent) (e : Engine) (k : ℕ) (blit : is_blit (command_in e)
 
   -- the cell's pixel, from a corner on
   from-corner : (corner : ℕ)
-      → cell_visit (point_of corner) e.registers.xy3 (cell_at extent e k) ≡ VisitAt (blit_point (point_of corner) e.registers.xy2 e.registers.xy3 index)
+      → cell_visit (point_of corner) e.registers.xy3 (cell_at extent e k) ≡ Some (blit_point (point_of corner) e.registers.xy2 e.registers.xy3 index)
   from-corner corner =
       ap (cell_visit (point_of corner) e.registers.xy3) (sym (cell-blit extent e k blit))
       ∙ cell-visit (point_of corner) e.registers.xy2 e.registers.xy3 index below
 
-  visit-is : visit_at extent e k ≡ VisitAt target
+  visit-is : visit_at extent e k ≡ Some target
   visit-is = sym (position-blit e k (cell_at extent e k) blit) ∙ from-corner e.registers.xy1
 
-  place_is : target_of extent e k ≡ cond seen (At (place_in extent.width target)) Outside
+  place_is : target_of extent e k ≡ cond seen (Some (place_in extent.width target)) None
   place_is = place-of-visit extent e k target visit-is
 
   read_at_lem : (t : Bool) (buffer : List ℕ) (i : ℕ)
-      → read_at (command_in e) e.registers buffer (cond t (At i) Outside) ≡ cond t (keyed (command_in e) e.registers (get_or buffer i 0)) Nothing
+      → read_at (command_in e) e.registers buffer (cond t (Some i) None) ≡ cond t (keyed (command_in e) e.registers (get_or buffer i 0)) None
   read_at_lem true buffer i = refl
   read_at_lem false buffer i = refl
 
   copied_is : (buffer : List ℕ)
       → copied_of (command_in e) e.registers extent (cell_at extent e k) buffer
-      ≡ cond (in_buffer extent.width extent.height source) (keyed (command_in e) e.registers (get_or buffer (place_in extent.width source) 0)) Nothing
+      ≡ cond (in_buffer extent.width extent.height source) (keyed (command_in e) e.registers (get_or buffer (place_in extent.width source) 0)) None
   unfolding copied_of place_of
   copied_is buffer =
       ap (copied_at (command_in e) e.registers extent buffer) (from-corner e.registers.xy0)
@@ -104,7 +101,7 @@ module _ (extent : Extent) (e : Engine) (k : ℕ) (blit : is_blit (command_in e)
 
   stippled-is : (buffer : List ℕ)
       → stippled_of (command_in e) e.registers extent (cell_at extent e k) buffer
-      ≡ cond (in_buffer (8 * extent.width) extent.height source) (by_bit (command_in e) e.registers (bit_of extent.width buffer source)) Nothing
+      ≡ cond (in_buffer (8 * extent.width) extent.height source) (by_bit (command_in e) e.registers (bit_of extent.width buffer source)) None
   unfolding stippled_of
   stippled-is buffer = ap (stippled_at (command_in e) e.registers extent buffer) (from-corner e.registers.xy0)
 
@@ -131,48 +128,53 @@ value-drawn e v old = sym (pen-as (command_in e).code e.registers.mask (code-sma
 
 -- the mark of a value at a place that may be hidden
 pub ink-value : (e : Engine) (v : ℕ) (t : Bool) (i : ℕ) (l : List ℕ)
-    → inked e (Value v) (cond t (At i) Outside) l ≡ cond t (set l i (new_byte (command_in e).code v (get_or l i 0) e.registers.mask)) l
+    → inked e (Some v) (cond t (Some i) None) l ≡ cond t (set l i (new_byte (command_in e).code v (get_or l i 0) e.registers.mask)) l
 ink-value e v true i l = refl
 ink-value e v false i l = refl
 
+-- a byte that is KEY, with KEY set
+key-set : (t : Bool) (key s : ℕ) → is_key (then_some t key) s ≡ (t && eqb s key)
+key-set true key s = refl
+key-set false key s = refl
+
 -- the mark of a byte that is read, unless it is KEY
 ink-keyed : (e : Engine) (s i : ℕ) (l : List ℕ) → e.registers.key < 256
-    → inked e (keyed (command_in e) e.registers s) (At i) l ≡ set l i (mixed (mix_in e) s (get_or l i 0))
+    → inked e (keyed (command_in e) e.registers s) (Some i) l ≡ set l i (mixed (mix_in e) s (get_or l i 0))
 unfolding mixed
 ink-keyed e s i l small =
     let same : e.registers.key % 256 ≡ e.registers.key = mod-eq_of_lt small in
     by_cases ((command_in e).key && eqb s e.registers.key)
     (λ t.
-    ap (λ t. inked e (cond t Nothing (Value s)) (At i) l) t ∙ sym (set-get_or l i 0)
+    ap (λ t. inked e (cond t None (Some s)) (Some i) l) t ∙ sym (set-get_or l i 0)
     ∙ ap (λ t. set l i (cond t (get_or l i 0) (drawn (selected (mix_in e).selectors s) (get_or l i 0))))
-    (sym (ap (λ k. (command_in e).key && eqb s k) same ∙ t)))
+    (sym (key-set (command_in e).key (e.registers.key % 256) s ∙ ap (λ k. (command_in e).key && eqb s k) same ∙ t)))
     (λ t.
-    ap (λ t. inked e (cond t Nothing (Value s)) (At i) l) t
+    ap (λ t. inked e (cond t None (Some s)) (Some i) l) t
     ∙ ap (set l i) (sym (selectors-as (command_in e).code e.registers.mask (code-small e) s (get_or l i 0)))
     ∙ ap (λ t. set l i (cond t (get_or l i 0) (drawn (selected (mix_in e).selectors s) (get_or l i 0))))
-    (sym (ap (λ k. (command_in e).key && eqb s k) same ∙ t)))
+    (sym (key-set (command_in e).key (e.registers.key % 256) s ∙ ap (λ k. (command_in e).key && eqb s k) same ∙ t)))
 
 -- the mark of a bit
-ink-bit : (e : Engine) (one : Bool) (i : ℕ) (l : List ℕ) → inked e (by_bit (command_in e) e.registers one) (At i) l ≡ set l i (stippled (stipple_in e) one (get_or l i 0))
+ink-bit : (e : Engine) (one : Bool) (i : ℕ) (l : List ℕ) → inked e (by_bit (command_in e) e.registers one) (Some i) l ≡ set l i (stippled (stipple_in e) one (get_or l i 0))
 ink-bit e true i l = ap (set l i) (value-drawn e e.registers.fore (get_or l i 0))
 ink-bit e false i l = by (command_in e).trnsp
   where
     by : (t : Bool)
-        → inked e (cond t Nothing (Value e.registers.back)) (At i) l
-        ≡ set l i (cond t (get_or l i 0) (drawn (pen_in e e.registers.back) (get_or l i 0)))
+        → inked e (cond t None (Some e.registers.back)) (Some i) l
+        ≡ set l i (drawn_if (cond t None (Some (pen_in e e.registers.back))) (get_or l i 0))
     by true = sym (set-get_or l i 0)
     by false = ap (set l i) (value-drawn e e.registers.back (get_or l i 0))
 
 -- what is read, at a place and from a place that may be hidden
-ink-read : (e : Engine) (s : Source) (x : ℕ) (t u : Bool) (i : ℕ) (l : List ℕ) → inked e s (At i) l ≡ set l i x
-    → inked e (cond u s Nothing) (cond t (At i) Outside) l ≡ cond (t && u) (set l i x) l
+ink-read : (e : Engine) (s : Option ℕ) (x : ℕ) (t u : Bool) (i : ℕ) (l : List ℕ) → inked e s (Some i) l ≡ set l i x
+    → inked e (cond u s None) (cond t (Some i) None) l ≡ cond (t && u) (set l i x) l
 ink-read e s x true true i l h = h
 ink-read e s x true false i l h = refl
-ink-read e s x false u i l h = kept (cond u s Nothing)
+ink-read e s x false u i l h = kept (cond u s None)
   where
-    kept : (o : Source) → inked e o Outside l ≡ l
-    kept (Value v) = refl
-    kept Nothing = refl
+    kept : (o : Option ℕ) → inked e o None l ≡ l
+    kept (Some v) = refl
+    kept None = refl
 
 -- a visit's mark, by what the blit is painted from
 module _ (extent : Extent) (e : Engine) (k : ℕ) (blit : is_blit (command_in e) ≡ true) (few : k < count_of extent e) (small : e.registers.key < 256)
@@ -197,10 +199,10 @@ module _ (extent : Extent) (e : Engine) (k : ℕ) (blit : is_blit (command_in e)
       cond (shown && (not (reads paint) || inside stride)) (set l at (painted paint other l (from stride) (get_or l at 0))) l
 
   solid-marks : (l other : List ℕ)
-      → inked e (Value e.registers.fore) (target_of extent e k) l
+      → inked e (Some e.registers.fore) (target_of extent e k) l
       ≡ marked (Solid (pen_in e e.registers.fore)) other l
   solid-marks l other =
-      ap (λ q. inked e (Value e.registers.fore) q l) (place_is extent e k blit few) ∙ ink-value e e.registers.fore shown at l
+      ap (λ q. inked e (Some e.registers.fore) q l) (place_is extent e k blit few) ∙ ink-value e e.registers.fore shown at l
       ∙ ap₂ (λ t x. cond t (set l at x) l) (sym (and-true shown)) (value-drawn e e.registers.fore (get_or l at 0))
 
   byte-marks : (l buffer : List ℕ)
@@ -222,7 +224,7 @@ module _ (extent : Extent) (e : Engine) (k : ℕ) (blit : is_blit (command_in e)
       ∙ ap (λ one. cond (shown && inside (8 * extent.width)) (set l at (stippled (stipple_in e) one (get_or l at 0))) l) (bit_is extent.width buffer p)
 
   -- bits or bytes
-  by_kind : (t : Bool) (a b : Source) (p q : Paint) (l other : List ℕ) → inked e a (target_of extent e k) l ≡ marked p other l
+  by_kind : (t : Bool) (a b : Option ℕ) (p q : Paint) (l other : List ℕ) → inked e a (target_of extent e k) l ≡ marked p other l
       → inked e b (target_of extent e k) l ≡ marked q other l → inked e (cond t a b) (target_of extent e k) l ≡ marked (cond t p q) other l
   by_kind true a b p q l other f g = f
   by_kind false a b p q l other f g = g
@@ -243,10 +245,10 @@ module _ (extent : Extent) (e : Engine) (k : ℕ) (blit : is_blit (command_in e)
       by_kind (command_in e).stpl bits bytes (StippledWithin (stipple_in e)) (Moved (mix_in e)) l other (bit-marks l l) (byte-marks l l)
 
   -- the mark on the buffer that is drawn on, beside the other one
-  abbrev Marks : Source → List ℕ → List ℕ → Type 0
+  abbrev Marks : Option ℕ → List ℕ → List ℕ → Type 0
   Marks s own other = inked e s (target_of extent e k) own ≡ visited (blit_in extent e) other (index extent e k blit few) own
 
-  marks-as : (paint : Paint) (s : Source) (own other : List ℕ) → paint_of e ≡ paint
+  marks-as : (paint : Paint) (s : Option ℕ) (own other : List ℕ) → paint_of e ≡ paint
       → inked e s (target_of extent e k) own ≡ marked paint other own → Marks s own other
   unfolding visited
   marks-as paint s own other p h = h ∙ ap (λ p. marked p other own) (sym p)
@@ -291,9 +293,9 @@ module _ (extent : Extent) (e : Engine) (k : ℕ) (blit : is_blit (command_in e)
   abbrev here : Point
   here = target extent e k blit few
 
-  tile-source : tiled_at fill (VisitAt here) ≡ source_at extent e fill k d v
+  tile-source : tiled_at fill (Some here) ≡ source_at extent e fill k d v
   tile-source =
-      tiled-by e.registers fill (cell_at extent e k) (cell_visit (point_of e.registers.xy1) e.registers.xy3 (cell_at extent e k)) (VisitAt here) refl
+      tiled-by e.registers fill (cell_at extent e k) (cell_visit (point_of e.registers.xy1) e.registers.xy3 (cell_at extent e k)) (Some here) refl
       (from-corner extent e k blit few e.registers.xy1)
       ∙ source-tiled (command_in e) e.registers e.pattern extent fill (cell_at extent e k) d v unsolid blit hatched
 

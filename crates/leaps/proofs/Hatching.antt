@@ -22,11 +22,12 @@ use Rattle.commands.proofs.Bounds.{pixels-lt, count_same}
 use Rattle.commands.proofs.Visiting.{visits-registers}
 use Rattle.leaps.specs.declared.hatched.Burst.{Burst}
 use Rattle.leaps.specs.declared.visits.Visits.{Visits}
-use Rattle.leaps.specs.Leaps.{Visited, with_tile, left_in, rest_in, Bursts, VisitsDone, after_visits, NoneDone, SomeDone, StrokeDone, BlitDone, TiledDone, OnceOn}
-use Rattle.leaps.specs.ListRuns.{Going, HatchDone}
+use Rattle.leaps.specs.Leaps.{Visited, with_tile, left_in, rest_in, VisitsDone, after_visits, NoneDone, SomeDone, StrokeDone, BlitDone, TiledDone, OnceOn}
+use Rattle.leaps.specs.ListRuns.{Going, BurstDone, HatchDone}
 use Rattle.leaps.proofs.Visiting.{Fit, AreVisits}
 use Rattle.leaps.proofs.Rows.{blit-visits, tiled-visits}
-use Rattle.leaps.proofs.Strokes.{not-blit, stroke-visits}
+use Rattle.entries.proofs.Registers.{line-no-blit}
+use Rattle.leaps.proofs.Strokes.{stroke-visits}
 use Rattle.leaps.proofs.Running.{visits-on, visits-done, going_start, going-visits}
 
 -- engine and buffers of visits, whatever is known of the fill
@@ -62,7 +63,7 @@ blit-plain : (e : Engine) → (command_in e).apat ≡ false → hatches e ≡ fa
 blit-plain e h = and_none e.under_way (tiles (command_in e)) (and_none (is_blit (command_in e)) (command_in e).apat h)
 
 line_plain : (e : Engine) → is_line (command_in e) ≡ true → hatches e ≡ false
-line_plain e h = and_none e.under_way (tiles (command_in e)) (ap (λ t. t && (command_in e).apat) (not-blit (command_in e) h))
+line_plain e h = and_none e.under_way (tiles (command_in e)) (ap (λ t. t && (command_in e).apat) (line-no-blit (command_in e) h))
 
 none_after : (n : ℕ) (extent : Extent) (s : Scene) → s.fill ≡ no_fill → (visits_of n extent s).fill ≡ no_fill
 unfolding visits_by visit_by
@@ -155,14 +156,27 @@ whole-fill n extent e d v f p u some all r d' v' q =
     sym (without-tile extent r d' v' rests) ∙ visited-with n extent s r d' v' q no_fill (fill-over n extent s some over)
     ∙ ap (λ f. visits_of n extent (scene e f d v)) p
 
-module _ (n : ℕ) (extent : Extent) (e : Engine) (d v : List ℕ) (some : 0 < n) where
-  pub burst-some : (r : Burst) (d' v' : List ℕ) → r.steps ≡ n → with_tile extent r.engine d' v' ≡ visits_of n extent (with_tile extent e d v)
-      → Bursts n extent e d v r d' v'
-  burst-some r d' v' p q = record { some = λ _. (p, q); none = λ z. absurd (omega (arith, some, p, z)) }
+-- all that the budget allows, but of a fill with a tile that it cuts
+module _ (budget : ℕ) (extent : Extent) (e : Engine) (d v : List ℕ) (u : e.under_way ≡ true) (some : 0 < budget) (r : Burst)
+    (q : r.steps ≡ min budget (left_in extent e)) (h : (hatches e && ltb budget (left_in extent e)) ≡ false) (f : Fill) (taken : f ≡ fill_taken extent e d v)
+    (d' v' : List ℕ) (visited : Visited r.steps extent (scene e f d v) r.engine d' v') where
+  any : 0 < r.steps
+  any = omega (arith, q, some)
 
-pub burst-none : (n : ℕ) (extent : Extent) (e : Engine) (d v : List ℕ) → hatches e ≡ true → n < left_in extent e
-    → Bursts n extent e d v (record { engine = e; steps = 0 }) d v
-burst-none n extent e d v h few = record { some = λ z. absurd (omega arith); none = λ _. (h, few, refl) }
+  burst-visits : with_tile extent r.engine d' v' ≡ visits_of r.steps extent (with_tile extent e d v)
+  burst-visits =
+      by_cases (hatches e)
+      (λ t.
+      let all = ltb-false budget (left_in extent e) (ap (λ t. t && ltb budget (left_in extent e)) (sym t) ∙ h) in
+      whole-fill r.steps extent e d v f taken u any (omega (arith, all, q)) r.engine d' v' visited)
+      (λ t. each-without r.steps extent e d v u t f (taken ∙ no_tile extent e d v t) r.engine d' v' visited)
+
+  pub burst-done : BurstDone budget extent e d v r d' v'
+  burst-done =
+      record {
+        some = λ _. visits-done budget extent (with_tile extent e d v) (left_in extent e) r.steps (with_tile extent r.engine d' v') u some refl q burst-visits;
+        none = λ z. absurd (omega (arith, any, z));
+      }
 
 -- ---- pixels of a command visited at once, with no tile before or after
 
@@ -242,36 +256,8 @@ module _ (budget : ℕ) (extent : Extent) (e : Engine) (own other : List ℕ) (u
 
 -- ---- a fill with a tile, with the budget that there is
 
-pub hatch-none : (budget : ℕ) (extent : Extent) (e : Engine) (f : Fill) (d v : List ℕ) → eqb budget 0 ≡ true → hatches e ≡ true
-    → HatchDone budget extent (scene e f d v) 0 e d v
-hatch-none budget extent e f d v none x =
-    let zero = eqb-true budget 0 none in
-    record {
-      idle = λ y. absurd (false≢true (sym y ∙ x));
-      going =
-          λ _ l c.
-          let same = first_of e.under_way f no_fill (and_left e.under_way (tiles (command_in e)) x) in
-          subst (λ g. Going l extent budget c (scene e f d v) 0 c (scene e g d v)) same (going_start l extent budget c (scene e f d v));
-      spent = λ _ _. omega (arith, zero);
-      still = λ _. omega (arith, zero);
-      few = omega arith;
-      rests = λ _ y. absurd (false≢true (sym y ∙ x));
-    }
-
-pub hatch-idle : (budget : ℕ) (extent : Extent) (e : Engine) (f : Fill) (d v : List ℕ) → hatches e ≡ false
-    → HatchDone budget extent (scene e f d v) 0 e d v
-hatch-idle budget extent e f d v x =
-    record {
-      idle = λ _. (refl, refl);
-      going = λ y. absurd (false≢true (sym x ∙ y));
-      spent = λ y. absurd (false≢true (sym x ∙ y));
-      still = λ y. absurd (false≢true (sym x ∙ y));
-      few = omega arith;
-      rests = λ y. absurd (false≢true (sym x ∙ y));
-    }
-
-module _ (budget : ℕ) (extent : Extent) (e : Engine) (f : Fill) (d v : List ℕ) (x : hatches e ≡ true) (some : 0 < budget) (left n : ℕ)
-    (p : left ≡ left_in extent e) (q : n ≡ min budget left) (r : Engine) (d' v' : List ℕ) (visited : Visited n extent (scene e f d v) r d' v')
+module _ (budget : ℕ) (extent : Extent) (e : Engine) (f : Fill) (d v : List ℕ) (x : hatches e ≡ true) (some : 0 < budget) (n : ℕ)
+    (q : n ≡ min budget (left_in extent e)) (r : Engine) (d' v' : List ℕ) (visited : Visited n extent (scene e f d v) r d' v')
     (display-long : length d' ≡ length d) (virt-long : length v' ≡ length v) where
   abbrev here : Scene
   here = scene e f d v
@@ -283,7 +269,7 @@ module _ (budget : ℕ) (extent : Extent) (e : Engine) (f : Fill) (d v : List �
   engine-is = ap (λ (s : Scene). s.engine) visited
 
   done : VisitsDone budget extent here n (visits_of n extent here)
-  done = visits-done budget extent here left n (visits_of n extent here) under some p q refl
+  done = visits-done budget extent here (left_in extent e) n (visits_of n extent here) under some refl q refl
 
   after : scene r (fill_after r f) d' v' ≡ visits_of n extent here
   after =
@@ -309,12 +295,12 @@ module _ (budget : ℕ) (extent : Extent) (e : Engine) (f : Fill) (d v : List �
             subst (λ k. Going l extent budget c here k c (scene r (fill_after r f) d' v')) none
             (going-visits l extent budget c here 0 c here some start n (scene r (fill_after r f) d' v')
             (record { some = done.some; few = omega (arith, done.few); visits = after; busy = done.busy }) display-long virt-long);
-        spent = λ _ few. omega (arith, p, q);
+        spent = λ _ few. omega (arith, q);
         still =
             λ y.
             by_cases (leb budget n) (λ t. leb-true budget n t)
             (λ t.
-            let all : n ≡ left_in extent e = omega (arith, p, q, leb-false budget n t) in
+            let all : n ≡ left_in extent e = omega (arith, q, leb-false budget n t) in
             absurd (false≢true (sym (idle-rests r (ap (λ (e : Engine). e.under_way) engine-is ∙ visits-over n extent here under all)) ∙ y)));
         few = omega (arith, q);
         rests = λ _ y. rests-by y;

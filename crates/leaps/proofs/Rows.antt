@@ -22,7 +22,7 @@ use Rattle.geometry.proofs.Visibility.{window-positive, index-past}
 use Rattle.geometry.proofs.Stretches.{visible-lt, same_whole, same-stretch}
 use Rattle.blits.specs.declared.Blit.{Blit}
 use Rattle.blits.specs.declared.Paint.{Paint}
-use Rattle.blits.specs.declared.Paint.TheVariants.{Solid, Copied, Moved, Stippled, StippledWithin}
+use Rattle.blits.specs.declared.Paint.TheVariants.{Copied}
 use Rattle.blits.specs.Blits.{reads, source_width, target_at, source_at, visited, window_inside, blit_fits, blitted}
 use Rattle.blits.proofs.Visits.{visit-hidden}
 use Rattle.blits.proofs.Loops.{blit-in}
@@ -30,7 +30,8 @@ use Rattle.entries.specs.declared.fields.Command.{Command}
 use Rattle.registers.specs.declared.file.Registers.{Registers}
 use Rattle.strokes.specs.Strokes.{Dashed, dashed}
 use Rattle.commands.specs.Visits.{command_in, window_in, shows, count_of, target_of, source_at as source_in}
-use Rattle.entries.specs.Fields.{is_blit, is_line}
+use Rattle.entries.specs.Fields.{is_blit}
+use Rattle.entries.proofs.Registers.{blit-no-line}
 use Rattle.tiles.specs.Tiles.{no_fill, fill_of}
 use Rattle.tiles.specs.declared.Fill.{Fill}
 use Rattle.tiles.specs.declared.Tile.{Tile}
@@ -44,17 +45,15 @@ use Rattle.commands.specs.declared.Engine.{Engine}
 use Rattle.commands.proofs.Bounds.{count_same}
 use Rattle.commands.proofs.Tests.{flag_is, count-blit}
 use Rattle.leaps.specs.declared.visits.Visits.{Visits}
-use Rattle.leaps.specs.Leaps.{pen_in, mix_in, stipple_in, paint_of, blit_in, tiling_in, index_of, stretch_of, moved_to, moved_by, can_leap, goes_by_tile, after_visits, rest_in, within_in, SomeDone, TiledDone, BlitDone}
+use Rattle.leaps.specs.declared.visits.Share.{Share}
+use Rattle.leaps.specs.Leaps.{mix_in, reads_own, paint_of, share_of, blit_in, tiling_in, index_of, stretch_of, moved_to, moved_by, can_leap, goes_by_tile, after_visits, rest_in, within_in, SomeDone, TiledDone, BlitDone}
 use Rattle.leaps.proofs.Visiting.{scene_on, unfilled, Marked, visits-are, Leaps, leaps-of, Fit, leaps-some, after-moved, AreVisits, none_done, some-done}
 use Rattle.leaps.proofs.Blits.{marks-on, tile-marks, no-tile-marks}
 use Rattle.geometry.specs.declared.Extent.{Extent}
 
-not_line : (c : Command) → is_blit c ≡ true → is_line c ≡ false
-not_line c h = ap (λ n. eqb n 2 || eqb n 5) (eqb-true c.opcode 1 h)
-
 pattern-stays : (e : Engine) → is_blit (command_in e) ≡ true → pattern_after e ≡ e.pattern
 unfolding pattern_after
-pattern-stays e h = rw (not_line (command_in e) h)
+pattern-stays e h = rw (blit-no-line (command_in e) h)
 
 same-blit : (extent : Extent) (e : Engine) (k : ℕ) → blit_in extent (moved_to e k e.pattern) ≡ blit_in extent e
 unfolding paint_of
@@ -374,7 +373,7 @@ module _ (budget : ℕ) (extent : Extent) (e : Engine) (own other : List ℕ) (b
 
   -- all of a fill with a tile
   module _ (c : Command) (is : c ≡ command_in e) (tests : (eqb count 0 || ltb budget count || ltb 0 e.visited || c.solid) ≡ false) (within : Bool)
-      (reads : within ≡ (c.to_virtual && c.from_virtual || not c.to_virtual && not c.from_virtual)) (fill : Fill)
+      (reads : within ≡ reads_own c) (fill : Fill)
       (taken : fill ≡ fill_of extent e.registers.xy0 (cond within own other)) where
     begins : (eqb count 0 || ltb budget count || ltb 0 e.visited) ≡ false
     begins = or-none-left (eqb count 0 || ltb budget count || ltb 0 e.visited) c.solid tests
@@ -382,22 +381,24 @@ module _ (budget : ℕ) (extent : Extent) (e : Engine) (own other : List ℕ) (b
     reaches-it : (eqb count 0 || ltb budget count) ≡ false
     reaches-it = or-none-left (eqb count 0 || ltb budget count) (ltb 0 e.visited) begins
 
-    whole-done : SomeDone extent e (record { pattern = e.pattern; steps = count; finished = true })
+    abbrev all_visits : Visits
+    all_visits = record { pattern = e.pattern; steps = count; finished = eqb count count }
+
+    whole-done : SomeDone extent e all_visits
     whole-done =
         let first = ltb-false 0 e.visited (or-none-right (eqb count 0 || ltb budget count) (ltb 0 e.visited) begins) in
         let all : count ≡ rest_in extent e = omega (arith, first, all_shown) in
-        record { few = omega (arith, all); finished = sym (eq-eqb count (rest_in extent e) all) }
+        record { few = omega (arith, all); finished = ap (eqb count) all }
 
     from-tile : (m : List ℕ) →
         let s = stretch_of (window_in extent e.registers) e (count_of extent e) count in
         m ≡ cond fill.whole (blitted (copy_of (tiling_in extent e)) s.from (s.past - s.from) (plane_of extent.width extent.height fill.tile) own) own
-        → TiledDone budget extent e own other (record { pattern = e.pattern; steps = count; finished = true }) m
+        → TiledDone budget extent e own other all_visits m
     from-tile m h =
         let s = stretch_of (window_in extent e.registers) e (count_of extent e) count in
         let some = eqb-false count 0 (or-none-left (eqb count 0) (ltb budget count) reaches-it) in
         let same : fill ≡ fill_of extent e.registers.xy0 (cond (within_in e) own other) =
-        taken ∙ ap (λ b. fill_of extent e.registers.xy0 (cond b own other))
-        (reads ∙ ap (λ (c : Command). c.to_virtual && c.from_virtual || not c.to_virtual && not c.from_virtual) is) in
+        taken ∙ ap (λ b. fill_of extent e.registers.xy0 (cond b own other)) (reads ∙ ap reads_own is) in
         record {
           within = omega (arith, ltb-false budget count (or-none-right (eqb count 0) (ltb budget count) reaches-it));
           none = λ z. absurd (some z);
@@ -414,17 +415,24 @@ module _ (budget : ℕ) (extent : Extent) (e : Engine) (own other : List ℕ) (b
         }
 
     pub tiled-drawn : fill.whole ≡ true → (t : Tiling) → t ≡ tiling_in extent e → (k : ℕ) → k ≡ blit_count e.registers.xy2 → (m : List ℕ)
-        → m ≡ blitted (copy_of t) 0 k (plane_of t.width t.height fill.tile) own
-        → TiledDone budget extent e own other (record { pattern = e.pattern; steps = count; finished = true }) m
+        → m ≡ blitted (copy_of t) 0 k (plane_of t.width t.height fill.tile) own → TiledDone budget extent e own other all_visits m
     tiled-drawn whole t made k all m h =
         from-tile m (h ∙ tiled-whole extent e count t k fill.tile made all_shown all own ∙ first_of fill.whole _ own whole)
 
-    pub tiled-missing : fill.whole ≡ false
-        → TiledDone budget extent e own other (record { pattern = e.pattern; steps = count; finished = true }) own
-    tiled-missing missing = from-tile own (second-of fill.whole _ own missing)
+    pub tiled-missing : fill.whole ≡ false → (m : List ℕ) → m ≡ own → TiledDone budget extent e own other all_visits m
+    tiled-missing missing m h = from-tile m (h ∙ second-of fill.whole _ own missing)
 
-  module _ (left n : ℕ) (rest : left ≡ count - e.visited) (least : n ≡ min budget left) (c : Command) (is : c ≡ command_in e)
-      (tests : (eqb n 0 || c.apat || leb 256 e.registers.key) ≡ false) where
+  module _ (s : Share) (shared : s ≡ share_of count e.visited budget) (c : Command) (is : c ≡ command_in e)
+      (tests : (eqb s.n 0 || c.apat || leb 256 e.registers.key) ≡ false) where
+    abbrev n : ℕ
+    n = s.n
+
+    rest : s.left ≡ count - e.visited
+    rest = ap (λ (s : Share). s.left) shared
+
+    least : n ≡ min budget (count - e.visited)
+    least = ap (λ (s : Share). s.n) shared
+
     unspent : (eqb n 0 || c.apat) ≡ false
     unspent = or-none-left (eqb n 0 || c.apat) (leb 256 e.registers.key) tests
 
@@ -435,7 +443,7 @@ module _ (budget : ℕ) (extent : Extent) (e : Engine) (own other : List ℕ) (b
 
     pub blit-some : (b : Blit) → b ≡ blit_in extent e → (p : Range) → p ≡ stretch_of w e count n → (k : ℕ)
         → k ≡ p.past - p.from → (own' : List ℕ) → own' ≡ blitted b p.from k other own
-        → BlitDone budget extent e own other (record { pattern = e.pattern; steps = n; finished = eqb n left }) own'
+        → BlitDone budget extent e own other (record { pattern = e.pattern; steps = n; finished = eqb n s.left }) own'
     blit-some b made p part k long own' drawn =
         let same = part ∙ ap₂ (λ w c. stretch_of w e c n) shown all_shown in
         record {
@@ -443,7 +451,7 @@ module _ (budget : ℕ) (extent : Extent) (e : Engine) (own other : List ℕ) (b
           none = λ z. absurd (omega (arith, z, some_left.0));
           some =
               λ _. (
-                some-done extent e count all_shown budget left n rest least e.pattern,
+                some-done extent e count all_shown budget s shared e.pattern,
                 flag_is e c is (λ c. c.apat) false (or-none-right (eqb n 0) c.apat unspent),
                 leb-false 256 e.registers.key (or-none-right (eqb n 0 || c.apat) (leb 256 e.registers.key) tests),
                 refl,
@@ -506,32 +514,3 @@ tiled-visits budget extent e own other blit hatched under-way fit r own' done an
     (λ t.
     ap (λ m. scene (after_visits e r) (fill_after (after_visits e r) f) (cond to other m) (cond to m other)) (left ∙ sym (second-of f.whole _ own t))
     ∙ missing-are extent e r.steps (length own) (length other) goes (after_visits e r) moved f t (cond to other own) (cond to own other))
-
--- whether one buffer is read and drawn on
-same-buffer : (to from within : Bool) (own other : Paint) → (to && from || not to && not from) ≡ within
-    → cond within own other ≡ cond to (cond from own other) (cond from other own)
-same-buffer true true within own other e = ap (λ t. cond t own other) (sym e)
-same-buffer true false within own other e = ap (λ t. cond t own other) (sym e)
-same-buffer false true within own other e = ap (λ t. cond t own other) (sym e)
-same-buffer false false within own other e = ap (λ t. cond t own other) (sym e)
-
--- what a blit draws with, by its flags
-module _ (e : Engine) (c : Command) (is : c ≡ command_in e) where
-  pub solid-paint : c.solid ≡ true → Solid (pen_in e e.registers.fore) ≡ paint_of e
-  unfolding paint_of
-  solid-paint s = rw (flag_is e c is (λ c. c.solid) true s)
-
-  -- from the buffer that is drawn on, or from the other one; bits, or bytes
-  pub read-paint : (within stpl : Bool) → c.solid ≡ false
-      → (c.to_virtual && c.from_virtual || not c.to_virtual && not c.from_virtual) ≡ within → c.stpl ≡ stpl
-      → cond within (cond stpl (StippledWithin (stipple_in e)) (Moved (mix_in e))) (cond stpl (Stippled (stipple_in e)) (Copied (mix_in e))) ≡ paint_of e
-  unfolding paint_of
-  read-paint within stpl s w t =
-      rw (
-        flag_is e c is (λ c. c.solid) false s,
-        flag_is e c is (λ c. c.to_virtual) c.to_virtual refl,
-        flag_is e c is (λ c. c.from_virtual) c.from_virtual refl,
-        flag_is e c is (λ c. c.stpl) stpl t,
-      )
-      (same-buffer c.to_virtual c.from_virtual within (cond stpl (StippledWithin (stipple_in e)) (Moved (mix_in e)))
-      (cond stpl (Stippled (stipple_in e)) (Copied (mix_in e))) w)

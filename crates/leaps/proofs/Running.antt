@@ -10,23 +10,19 @@ use lib.Dec.{ltb}
 use lib.ListN.{length}
 use Rattle.lemmas.proofs.Booleans.{by_cases}
 use Rattle.geometry.specs.declared.Extent.{Extent}
-use Rattle.entries.specs.Fields.{is_trigger}
 use Rattle.entries.specs.declared.decoding.Entry.{Entry}
-use Rattle.lists.specs.Spans.{end_of}
 use Rattle.lists.specs.Cursors.{next_of, fetched_of, ended_of}
 use Rattle.lists.specs.declared.cursors.Cursor.{Cursor}
 use Rattle.lists.specs.declared.cursors.Next.{Next}
 use Rattle.lists.specs.declared.cursors.Next.TheVariants.{Ended, Visit, Take, Broken}
-use Rattle.lists.proofs.Fetches.{next-visit, next-over, broken-going, chosen}
+use Rattle.lists.proofs.Fetches.{next-visit, next-over, broken-going}
 use Rattle.commands.specs.Visits.{shows, count_of}
 use Rattle.commands.specs.Steps.{Scene, advanced_by, advanced_of, visit_by, visit_of, visits_by, visits_of, entered_of, taken_of}
 use Rattle.commands.specs.declared.Engine.{Engine}
 use Rattle.commands.proofs.Bounds.{count_same}
-use Rattle.commands.proofs.Triggers.{put-entered}
-use Rattle.leaps.specs.declared.hatched.Burst.{Burst}
 use Rattle.leaps.specs.declared.list_runs.Progress.{Progress}
-use Rattle.leaps.specs.Leaps.{with_tile, left_in, Bursts, VisitsDone}
-use Rattle.leaps.specs.ListRuns.{Reached, Reaches, stopped, longer, by_step, run_from, Going, BurstDone, EntriesRun}
+use Rattle.leaps.specs.Leaps.{with_tile, VisitsDone}
+use Rattle.leaps.specs.ListRuns.{Reached, Reaches, stopped, longer, by_step, run_from, Going, EntriesRun}
 
 -- ---- sums of steps
 
@@ -85,19 +81,6 @@ visits-done budget extent s n k t u h p q e =
       few = omega arith;
       visits = e;
       busy = λ j below. still-busy extent s j u (omega arith);
-    }
-
--- a burst within the budget
-pub burst-done : (budget : ℕ) (extent : Extent) (e : Engine) (d v : List ℕ) (left n : ℕ) → e.under_way ≡ true → 0 < budget → left ≡ left_in extent e
-    → n ≡ min budget left → (r : Burst) (d' v' : List ℕ) → Bursts n extent e d v r d' v' → BurstDone budget extent e d v r d' v'
-burst-done budget extent e d v left n u some p q r d' v' b =
-    record {
-      some =
-          λ h.
-          let done = b.some h in
-          visits-done budget extent (with_tile extent e d v) left r.steps (with_tile extent r.engine d' v') u some p (done.0 ∙ q)
-          (done.1 ∙ ap (λ k. visits_of k extent (with_tile extent e d v)) (sym done.0));
-      none = λ z. let none = b.none z in (none.0, omega (arith, none.1, p, q), none.2);
     }
 
 -- ---- how many steps
@@ -206,24 +189,30 @@ module _ (l : List ℕ) (extent : Extent) where
         same = sym (longer-none (from (budget - 0) c s)) ∙ ap (λ k. from k c s) e;
       }
 
-  module _ (budget : ℕ) (c₀ : Cursor) (s₀ : Scene) (k : ℕ) (c : Cursor) (s : Scene) (below : k < budget)
-      (going : Going l extent budget c₀ s₀ k c s) where
-    pub going-visits : (j : ℕ) (t : Scene) → VisitsDone (budget - k) extent s j t → length t.display ≡ length s.display
+  module _ (budget : ℕ) (c₀ : Cursor) (s₀ : Scene) (k : ℕ) (c : Cursor) (s : Scene) (going : Going l extent budget c₀ s₀ k c s) where
+    pub going-on : (j : ℕ) (t : Scene) → k + j ≤ budget → t ≡ visits_of j extent s
+        → ((i : ℕ) → i < j → (visits_of i extent s).engine.under_way ≡ true) → length t.display ≡ length s.display
         → length t.virt ≡ length s.virt → Going l extent budget c₀ s₀ (k + j) c t
-    going-visits j t done ld lv =
+    going-on j t few visits busy ld lv =
         let rest = budget - (k + j) in
-        let split : budget - k ≡ rest + j = omega (arith, done.few) in
+        let split : budget - k ≡ rest + j = omega (arith, few) in
         let swap : k + j ≡ j + k = omega arith in
         record {
-          under = omega (arith, done.few);
+          under = few;
           span_same = going.span_same;
           display-long = ld ∙ going.display-long;
           virt-long = lv ∙ going.virt-long;
           same =
               ap (λ i. longer i (from rest c t)) swap ∙ sym (longer-longer k j (from rest c t))
-              ∙ ap (longer k) (ap (λ t. longer j (from rest c t)) done.visits ∙ sym (visits-run j rest c s done.busy))
+              ∙ ap (longer k) (ap (λ t. longer j (from rest c t)) visits ∙ sym (visits-run j rest c s busy))
               ∙ ap (λ i. longer k (from i c s)) (sym split) ∙ going.same;
         }
+
+  module _ (budget : ℕ) (c₀ : Cursor) (s₀ : Scene) (k : ℕ) (c : Cursor) (s : Scene) (below : k < budget)
+      (going : Going l extent budget c₀ s₀ k c s) where
+    pub going-visits : (j : ℕ) (t : Scene) → VisitsDone (budget - k) extent s j t → length t.display ≡ length s.display
+        → length t.virt ≡ length s.virt → Going l extent budget c₀ s₀ (k + j) c t
+    going-visits j t done = going-on budget c₀ s₀ k c s going j t (omega (arith, below, done.few)) done.visits done.busy
 
     pub going-takes : (x : Entry) → next_of l c s.engine.under_way ≡ Take x → (f : Engine) → f ≡ entered_of extent s.engine x
         → Going l extent budget c₀ s₀ (k + 1) (fetched_of c) (with_tile extent f s.display s.virt)
@@ -242,12 +231,6 @@ module _ (l : List ℕ) (extent : Extent) where
               ∙ ap (λ i. longer i (from rest (fetched_of c) t)) swap ∙ sym (longer-longer k 1 (from rest (fetched_of c) t))
               ∙ ap (longer k) (sym (by_next_lem rest c s (Take x) e)) ∙ ap (λ i. longer k (from i c s)) (sym split) ∙ going.same;
         }
-
-    -- the number of the entry after one that is taken fits 32 bits
-    pub going-room : end_of c₀.span < 4294967296 → (x : Entry) → next_of l c s.engine.under_way ≡ Take x → c.next + 1 < 4294967296
-    going-room fits x e =
-        let same : end_of c.span ≡ end_of c₀.span = ap end_of going.span_same in
-        omega (arith, (chosen l c s.engine.under_way (Take x) e).more)
 
     -- no step is left, or the next entry is illegal
     pub going-stops : (x : Next) (broken : Bool) → next_of l c s.engine.under_way ≡ x
@@ -324,19 +307,6 @@ module _ (l : List ℕ) (extent : Extent) where
     module _ (k : ℕ) (c : Cursor) (e : Engine) (d v : List ℕ) (below : k < budget) (r : Resting k c e d v) where
       next-at : (x : Next) → next_of l c false ≡ x → next_of l c e.under_way ≡ x
       next-at x h = ap (next_of l c) r.rests ∙ h
-
-      pub resting-takes : (x : Entry) → next_of l c false ≡ Take x → (f : Engine) → f ≡ entered_of extent e x
-          → Going l extent budget c₀ s₀ (k + 1) (fetched_of c) (with_tile extent f d v)
-      resting-takes x h f p = going-takes budget c₀ s₀ k c (with_tile extent e d v) below r.going x (next-at (Take x) h) f p
-
-      -- an entry that triggers nothing leaves no command under way
-      pub resting-goes : (x : Entry) → next_of l c false ≡ Take x → is_trigger x.register ≡ false → (f : Engine) → f ≡ entered_of extent e x
-          → Resting (k + 1) (fetched_of c) f d v
-      resting-goes x h plain f p =
-          record {
-            rests = ap (λ (f : Engine). f.under_way) (p ∙ sym (put-entered extent e x plain));
-            going = resting-takes x h f p;
-          }
 
       -- no entry is left, or the next one is illegal
       pub resting-stops : (x : Next) (broken : Bool) → next_of l c false ≡ x

@@ -1,12 +1,13 @@
 -- Many visits of a line are the pixels that the line loops draw.
 -- Assumes nothing.
+use Rattle.std.specs.Prelude.{Some, None}
 use mathlib.Core.Path.{◌≡◌, refl, ap, ap₂, sym, ◌∙◌}
-use mathlib.Core.Bool.{Bool, true, false, not, cond, ◌&&◌, ◌||◌, false≢true}
+use mathlib.Core.Bool.{Bool, true, false, cond, ◌||◌}
 use mathlib.Core.List.{List}
 use Prim.Native.Nat.{ℕ, ◌+◌, ◌-◌, ◌*◌, ◌≤◌, ◌<◌, min, max}
 use native.Mathlib.Nat.{mul-le-mul_left, mul_comm}
 use native.Mathlib.Omega.{arith}
-use borrow.Author.Tests.{eqb-true, eqb-false, ltb-false, lt-ltb, le-leb}
+use borrow.Author.Tests.{eqb-false, ltb-false, lt-ltb, le-leb}
 use lib.Dec.{eqb, ltb}
 use lib.ListN.{length, get_or, set}
 use Rattle.lemmas.proofs.Booleans.{by_cases, both, or-none-left, or-none-right}
@@ -16,43 +17,35 @@ use Rattle.geometry.specs.Clip.{rect_of, window_of, in_window, place_in}
 use Rattle.geometry.specs.Line.{steps_of, line_count, line_point}
 use Rattle.geometry.specs.declared.Point.{Point}
 use Rattle.geometry.specs.declared.Window.{Window}
-use Rattle.geometry.specs.declared.Place.TheVariants.{At, Outside}
-use Rattle.geometry.specs.declared.Visit.TheVariants.{At as VisitAt}
 use Rattle.geometry.proofs.Lines.{line_at, count-le}
 use Rattle.entries.specs.declared.fields.Command.{Command}
 use Rattle.registers.specs.Patterns.{pattern_bit}
 use Rattle.registers.specs.declared.dashes.Pattern.{Pattern}
-use Rattle.strokes.specs.Strokes.{plotted, pixels_of, window_fits, stroke_fits, stroke_of, Dashed, dashed, dash, dash_pixels, dashes_of}
+use Rattle.strokes.specs.Strokes.{plotted, pixels_of, window_fits, stroke_fits, stroke_of, Dashed, dashed, drawn_by, dash, dash_pixels, dashes_of}
 use Rattle.strokes.proofs.Drawn.{stroke-fit, dashes-fit}
 use Rattle.commands.specs.Visits.{command_in, line_start, window_in, count_of, cell_at, visit_at, target_of, source_at}
 use Rattle.commands.proofs.Tests.{count-line, position-line}
 use Rattle.sources.proofs.Reading.{source-solid, source-dash}
-use Rattle.entries.specs.Fields.{is_blit, is_line}
+use Rattle.entries.specs.Fields.{is_line}
+use Rattle.entries.proofs.Registers.{line-no-blit}
 use Rattle.sources.specs.Sources.{dash_of}
 use Rattle.tiles.specs.Tiles.{no_fill}
 use Rattle.commands.specs.Steps.{scene, inked, pattern_after, visits_of}
 use Rattle.commands.specs.declared.Engine.{Engine}
-use Rattle.sources.specs.declared.Source.TheVariants.{Value, Nothing}
 use Rattle.leaps.specs.declared.visits.Visits.{Visits}
-use Rattle.leaps.specs.Leaps.{moved_to, moved_by, pen_in, dashes_in, stroke_in, after_visits, StrokeDone}
+use Rattle.leaps.specs.declared.visits.Share.{Share}
+use Rattle.leaps.specs.Leaps.{moved_to, moved_by, pen_in, dashes_in, share_of, stroke_in, after_visits, StrokeDone}
 use Rattle.leaps.proofs.Visiting.{scene_on, unfilled, Marked, visits-are, Leaps, Fit, leaps-some, after-moved, AreVisits, none_done, some-done}
 use Rattle.leaps.proofs.Blits.{place-of-visit, code-small, ink-value}
 use Rattle.geometry.specs.declared.Extent.{Extent}
 
--- a line is no blit
-pub not-blit : (c : Command) → is_line c ≡ true → is_blit c ≡ false
-not-blit c h =
-    by_cases (is_blit c)
-    (λ t. absurd (false≢true (sym (ap (λ n. eqb n 2 || eqb n 5) (eqb-true c.opcode 1 t)) ∙ h)))
-    (λ t. t)
-
 pub count-is : (extent : Extent) (e : Engine) → is_line (command_in e) ≡ true → count_of extent e ≡ line_count (point_of (line_start e)) (point_of e.registers.xy1) (command_in e).nlst
-count-is extent e h = sym (count-line extent e (not-blit (command_in e) h) h)
+count-is extent e h = sym (count-line extent e (line-no-blit (command_in e) h) h)
 
 -- the mark of a value is a pixel plotted with its pen
 ink-plots : (extent : Extent) (e : Engine) (v : ℕ) (p : Point) (l : List ℕ) →
     let w = window_in extent e.registers in
-    inked e (Value v) (cond (in_window w p) (At (place_in extent.width p)) Outside) l ≡ plotted extent.width w (pen_in e v) p l
+    inked e (Some v) (cond (in_window w p) (Some (place_in extent.width p)) None) l ≡ plotted extent.width w (pen_in e v) p l
 unfolding plotted
 ink-plots extent e v p l =
     let w = window_in extent e.registers in
@@ -71,12 +64,12 @@ module _ (extent : Extent) (e : Engine) (line : is_line (command_in e) ≡ true)
     abbrev here : Engine
     here = moved_to e k q
 
-    visit-is : visit_at extent here (e.visited + k) ≡ VisitAt (point k)
+    visit-is : visit_at extent here (e.visited + k) ≡ Some (point k)
     visit-is =
-        sym (position-line here (e.visited + k) (cell_at extent here (e.visited + k)) (not-blit (command_in e) line) line)
+        sym (position-line here (e.visited + k) (cell_at extent here (e.visited + k)) (line-no-blit (command_in e) line) line)
         ∙ sym (line_at (point_of (line_start e)) (point_of e.registers.xy1) (command_in e).nlst (e.visited + k) (omega (arith, few, count-is extent e line)))
 
-    place_is : target_of extent here (e.visited + k) ≡ cond (in_window window (point k)) (At (place_in extent.width (point k))) Outside
+    place_is : target_of extent here (e.visited + k) ≡ cond (in_window window (point k)) (Some (place_in extent.width (point k))) None
     place_is = place-of-visit extent here (e.visited + k) (point k) visit-is
 
     -- with SOLID
@@ -100,14 +93,15 @@ module _ (extent : Extent) (e : Engine) (line : is_line (command_in e) ≡ true)
     unfolding dash_of dash
     dash-mark s d v l =
         ap₂ (λ o p. inked here o p l)
-        (sym (source-dash (command_in here) here.registers here.pattern extent no_fill (cell_at extent here (e.visited + k)) d v s (not-blit (command_in e) line)))
+        (sym (source-dash (command_in here) here.registers here.pattern extent no_fill (cell_at extent here (e.visited + k)) d v s (line-no-blit (command_in e) line)))
         place_is
         ∙ by (pattern_bit e.registers.lpat q) (command_in e).trnsp
       where
         by : (b t : Bool)
-            → inked here (cond b (Value e.registers.fore) (cond t Nothing (Value e.registers.back)))
-            (cond (in_window window (point k)) (At (place_in extent.width (point k))) Outside) l
-            ≡ cond (not b && t) l (plotted extent.width window (cond b (pen_in e e.registers.fore) (pen_in e e.registers.back)) (point k) l)
+            → inked here (cond b (Some e.registers.fore) (cond t None (Some e.registers.back)))
+            (cond (in_window window (point k)) (Some (place_in extent.width (point k))) None) l
+            ≡ drawn_by (cond b (Some (pen_in e e.registers.fore)) (cond t None (Some (pen_in e e.registers.back))))
+            (λ pen. plotted extent.width window pen (point k) l) l
         by true t = ink-plots extent here e.registers.fore (point k) l
         by false true = refl
         by false false = ink-plots extent here e.registers.back (point k) l
@@ -222,27 +216,6 @@ module _ (extent : Extent) (e : Engine) (n display virt : ℕ) (g : Goes extent 
       visits-to (dash_state extent e g.line own) refl (dash-strokes extent e g.line t to other own)
       (h ∙ ap (λ t. cond t line dotted) t ∙ sym (dashes-fit extent.width w (dashes_in e) a b e.visited n (dashed own e.pattern) _ fit refl)))
 
--- a conjunction that fails, by its first part
-pub and_first : (a b : Bool) → (a && b) ≡ false → a ≡ true → b ≡ false
-and_first true b e t = e
-and_first false b e t = absurd (false≢true t)
-
--- the two kinds of strokes, by the decoded command
-module _ (extent : Extent) (e : Engine) (c : Command) (is : c ≡ command_in e) (n : ℕ) (l : List ℕ) where
-  pub stroke-solid : c.solid ≡ true → (m : List ℕ)
-      → m ≡ stroke_of extent.width (window_in extent e.registers) (pen_in e e.registers.fore) (point_of (line_start e)) (point_of e.registers.xy1) e.visited n l
-      → dashed m e.pattern ≡ stroke_in extent e n l
-  unfolding stroke_in
-  stroke-solid s m h =
-      let t : (command_in e).solid ≡ true = ap (λ (c : Command). c.solid) (sym is) ∙ s in
-      rw t (ap (λ m. dashed m e.pattern) h)
-
-  pub stroke-dashes : c.solid ≡ false → (r : Dashed)
-      → r ≡ dashes_of extent.width (window_in extent e.registers) (dashes_in e) (point_of (line_start e)) (point_of e.registers.xy1) e.visited n (dashed l e.pattern)
-      → r ≡ stroke_in extent e n l
-  unfolding stroke_in
-  stroke-dashes s r h = let t : (command_in e).solid ≡ false = ap (λ (c : Command). c.solid) (sym is) ∙ s in rw t h
-
 -- ---- a line visited at once, by the number that was counted
 
 module _ (budget : ℕ) (extent : Extent) (e : Engine) (own : List ℕ) (line : is_line (command_in e) ≡ true) (c : Command) (is : c ≡ command_in e)
@@ -255,16 +228,16 @@ module _ (budget : ℕ) (extent : Extent) (e : Engine) (own : List ℕ) (line : 
   stroke-none =
       record { within = omega arith; none = λ _. (none_done extent e count all-counted, refl); some = λ h. absurd (omega (arith, h)) }
 
-  pub stroke-some : (left n : ℕ) → left ≡ count - e.visited → n ≡ min budget left → (eqb n 0 || ltb count 2) ≡ false
-      → (q : Pattern) (own' : List ℕ) → dashed own' q ≡ stroke_in extent e n own
-      → StrokeDone budget extent e own (record { pattern = q; steps = n; finished = eqb n left }) own'
-  stroke-some left n rest least tests q own' drawn =
-      let any = eqb-false n 0 (or-none-left (eqb n 0) (ltb count 2) tests) in
-      let long = ltb-false count 2 (or-none-right (eqb n 0) (ltb count 2) tests) in
+  pub stroke-some : (s : Share) → s ≡ share_of count e.visited budget → (eqb s.n 0 || ltb count 2) ≡ false
+      → (q : Pattern) (own' : List ℕ) → dashed own' q ≡ stroke_in extent e s.n own
+      → StrokeDone budget extent e own (record { pattern = q; steps = s.n; finished = eqb s.n s.left }) own'
+  stroke-some s shared tests q own' drawn =
+      let any = eqb-false s.n 0 (or-none-left (eqb s.n 0) (ltb count 2) tests) in
+      let long = ltb-false count 2 (or-none-right (eqb s.n 0) (ltb count 2) tests) in
       record {
-        within = omega (arith, least);
+        within = omega (arith, ap (λ (s : Share). s.n) shared);
         none = λ z. absurd (any z);
-        some = λ _. (some-done extent e count all-counted budget left n rest least q, omega (arith, long, all-counted), drawn);
+        some = λ _. (some-done extent e count all-counted budget s shared q, omega (arith, long, all-counted), drawn);
       }
 
 pub stroke-visits : (budget : ℕ) (extent : Extent) (e : Engine) (own other : List ℕ) → is_line (command_in e) ≡ true → e.under_way ≡ true

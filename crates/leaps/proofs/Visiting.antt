@@ -3,7 +3,7 @@
 use mathlib.Core.Path.{◌≡◌, refl, ap, sym, ◌∙◌}
 use mathlib.Core.Bool.{Bool, true, false, cond, ◌&&◌}
 use mathlib.Core.List.{List}
-use Prim.Native.Nat.{ℕ, zero, suc, ◌+◌, ◌-◌, ◌*◌, ◌≤◌, ◌<◌, min}
+use Prim.Native.Nat.{ℕ, zero, suc, ◌+◌, ◌-◌, ◌*◌, ◌≤◌, ◌<◌}
 use native.Mathlib.Omega.{arith}
 use borrow.Author.Tests.{eqb-true, eqb-false, ltb-true, ltb-false, leb-true, lt-ltb, le-ltb}
 use lib.Dec.{eqb, ltb, leb}
@@ -18,7 +18,8 @@ use Rattle.commands.specs.Steps.{Scene, scene, inked, pattern_after, advanced_by
 use Rattle.commands.specs.declared.Engine.{Engine}
 use Rattle.commands.proofs.Bounds.{count_same}
 use Rattle.leaps.specs.declared.visits.Visits.{Visits}
-use Rattle.leaps.specs.Leaps.{moved_to, finished_at, moved_by, can_leap, buffers_fit, rest_in, after_visits, NoneDone, SomeDone}
+use Rattle.leaps.specs.declared.visits.Share.{Share}
+use Rattle.leaps.specs.Leaps.{moved_to, finished_at, moved_by, can_leap, buffers_fit, rest_in, share_of, after_visits, NoneDone, SomeDone}
 use Rattle.geometry.specs.declared.Extent.{Extent}
 
 -- An engine beside the buffer that it draws on, which is the virtual one where `to` is true, and the other one; with the tile of
@@ -204,10 +205,12 @@ module _ (extent : Extent) (e : Engine) (count : ℕ) (counted : count ≡ count
   pub none_done : NoneDone extent e (record { pattern = e.pattern; steps = 0; finished = eqb count 0 })
   none_done = record { finished = ap (λ k. eqb k 0) counted; pattern = refl }
 
-  pub some-done : (budget left n : ℕ) → left ≡ count - e.visited → n ≡ min budget left → (q : Pattern)
-      → SomeDone extent e (record { pattern = q; steps = n; finished = eqb n left })
-  some-done budget left n rest least q =
+  pub some-done : (budget : ℕ) (s : Share) → s ≡ share_of count e.visited budget → (q : Pattern)
+      → SomeDone extent e (record { pattern = q; steps = s.n; finished = eqb s.n s.left })
+  some-done budget s shared q =
+      let rest = ap (λ (s : Share). s.left) shared in
+      let least = ap (λ (s : Share). s.n) shared in
       record {
         few = omega (arith, counted, rest, least);
-        finished = ap (eqb n) (rest ∙ ap (λ k. k - e.visited) counted);
+        finished = ap (eqb s.n) (rest ∙ ap (λ k. k - e.visited) counted);
       }

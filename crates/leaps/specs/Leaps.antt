@@ -1,7 +1,9 @@
 -- Many visits of one command at once: what the row and line loops are given. The visits themselves are those of `commands`.
-use Rattle.std.specs.Prelude.{◌≡◌, Bool, true, false, not, cond, ◌&&◌, ◌||◌, List, ℕ, ◌+◌, ◌-◌, ◌*◌, ◌%◌, ◌≤◌, ◌<◌, max, eqb, leb, ltb}
+use Rattle.std.specs.Prelude.{◌≡◌, Bool, true, false, not, cond, ◌&&◌, ◌||◌, Option, None, Some, List, ℕ, ◌+◌, ◌-◌, ◌*◌, ◌%◌, ◌≤◌, ◌<◌, min, max, eqb, leb, ltb}
+use Rattle.std.specs.Bool.{then_some}
 use Rattle.raster.specs.Selectors.{pen_of, selectors_of}
 use Rattle.raster.specs.declared.Pen.{Pen}
+use Rattle.raster.specs.declared.Selectors.{Selectors}
 use Rattle.geometry.specs.Coordinates.{point_of}
 use Rattle.geometry.specs.Blit.{blit_count}
 use Rattle.geometry.specs.Visible.{visible_index}
@@ -17,36 +19,42 @@ use Rattle.blits.specs.declared.Paint.{Paint}
 use Rattle.blits.specs.declared.tiled.Tiling.{Tiling}
 use Rattle.blits.specs.declared.Paint.TheVariants.{Solid, Copied, Moved, Stippled, StippledWithin}
 use Rattle.entries.specs.Fields.{pattern_control_of, is_blit}
+use Rattle.entries.specs.declared.fields.Command.{Command}
 use Rattle.registers.specs.declared.dashes.Pattern.{Pattern}
 use Rattle.registers.specs.declared.file.Registers.{Registers}
 use Rattle.strokes.specs.Strokes.{stroke_of, Dashed, dashed, dashes_of}
 use Rattle.strokes.specs.declared.Dashes.{Dashes}
 use Rattle.tiles.specs.Tiles.{fill_of}
 use Rattle.commands.specs.Visits.{command_in, line_start, window_in, count_of}
-use Rattle.commands.specs.Hatching.{hatches, fill_taken}
+use Rattle.commands.specs.Hatching.{fill_taken}
 use Rattle.commands.specs.Steps.{Scene, scene, visits_of}
 use Rattle.commands.specs.declared.Engine.{Engine}
-use Rattle.leaps.specs.declared.hatched.Burst.{Burst}
+use Rattle.leaps.specs.declared.visits.Share.{Share}
 use Rattle.leaps.specs.declared.visits.Visits.{Visits}
 
 -- The pen of a value. FORE, BACK, MASK and KEY are bytes where the registers are legal.
 abbrev pub pen_in : Engine → ℕ → Pen
 pen_in e value = pen_of (command_in e).code (value % 256) (e.registers.mask % 256)
 
+abbrev pub selectors_in : Engine → Selectors
+selectors_in e = selectors_of (command_in e).code (e.registers.mask % 256)
+
 abbrev pub mix_in : Engine → Mix
 mix_in e =
     record {
-      selectors = selectors_of (command_in e).code (e.registers.mask % 256);
-      keyed = (command_in e).key;
-      key = e.registers.key % 256;
+      selectors = selectors_in e;
+      key = then_some (command_in e).key (e.registers.key % 256);
     }
+
+-- The pen of a 0 bit, which draws nothing with TRNSP.
+abbrev pub zero_pen_in : Engine → Option Pen
+zero_pen_in e = cond (command_in e).trnsp None (Some (pen_in e e.registers.back))
 
 abbrev pub stipple_in : Engine → Stipple
 stipple_in e =
     record {
       fore = pen_in e e.registers.fore;
-      back = pen_in e e.registers.back;
-      clear = (command_in e).trnsp;
+      back = zero_pen_in e;
     }
 
 -- A blit draws with FORE, or from bytes or bits of the other buffer, or of the one that it draws on.
@@ -76,11 +84,15 @@ blit_in extent e =
       paint = paint_of e;
     }
 
+-- Whether a blit reads the buffer that it draws on.
+abbrev pub reads_own : Command → Bool
+reads_own c = c.to_virtual && c.from_virtual || not c.to_virtual && not c.from_virtual
+
 -- With APAT it draws a tile (02, R-7).
 abbrev pub tiling_in : Extent → Engine → Tiling
 tiling_in extent e =
     record {
-      selectors = (mix_in e).selectors;
+      selectors = selectors_in e;
       width = extent.width;
       height = extent.height;
       window = window_in extent e.registers;
@@ -100,14 +112,17 @@ stretch_of w e count n =
     cond (eqb n count) (record { from = 0; past = blit_count g.xy2 })
     (record { from = index_of w g e.visited; past = index_of w g (e.visited + n - 1) + 1 })
 
+-- Of a command's pixels, those that are left, and how many of these the budget reaches.
+abbrev pub share_of : ℕ → ℕ → ℕ → Share
+share_of count visited budget = record { left = count - visited; n = min budget (count - visited) }
+
 -- A line draws with FORE, or with FORE and BACK by its pattern.
 abbrev pub dashes_in : Engine → Dashes
 dashes_in e =
     record {
       lpat = e.registers.lpat;
       fore = pen_in e e.registers.fore;
-      back = pen_in e e.registers.back;
-      clear = (command_in e).trnsp;
+      back = zero_pen_in e;
       control = pattern_control_of e.registers.pctrl;
     }
 
@@ -156,11 +171,6 @@ with_tile extent e display virt = scene e (fill_taken extent e display virt) dis
 -- The visits that are left, and one where the count says that none is.
 abbrev pub left_in : Extent → Engine → ℕ
 left_in extent e = max 1 (count_of extent e - e.visited)
-
--- n visits after which no tile is held; or none, of a fill with a tile that n do not end.
-pub record Bursts (n : ℕ) (extent : Extent) (e : Engine) (d v : List ℕ) (r : Burst) (d' v' : List ℕ) : Type 0 where
-  pub some : 0 < r.steps → (r.steps ≡ n) × (with_tile extent r.engine d' v' ≡ visits_of n extent (with_tile extent e d v))
-  pub none : r.steps ≡ 0 → (hatches e ≡ true) × (n < left_in extent e) × (with_tile extent r.engine d' v' ≡ with_tile extent e d v)
 
 -- k visits of the command under way, within the budget, lead from s to t.
 pub record VisitsDone (budget : ℕ) (extent : Extent) (s : Scene) (k : ℕ) (t : Scene) : Type 0 where
@@ -215,9 +225,7 @@ pub record BlitDone (budget : ℕ) (extent : Extent) (e : Engine) (own other : L
 
 -- All visits of the fill with a tile in CMD: the tile stands in the source buffer; of one that is not whole nothing is drawn.
 abbrev pub within_in : Engine → Bool
-within_in e =
-    let c = command_in e in
-    c.to_virtual && c.from_virtual || not c.to_virtual && not c.from_virtual
+within_in e = reads_own (command_in e)
 
 pub record TiledDone (budget : ℕ) (extent : Extent) (e : Engine) (own other : List ℕ) (r : Visits) (own' : List ℕ) : Type 0 where
   pub within : r.steps ≤ budget
@@ -243,3 +251,16 @@ pub record OnceOn (budget : ℕ) (extent : Extent) (e : Engine) (own other : Lis
   pub some : 0 < r.steps → (to : Bool) → (command_in e).to_virtual ≡ to
       → VisitsDone budget extent (with_tile extent e (cond to other own) (cond to own other)) r.steps
       (with_tile extent (after_visits e r) (cond to other own') (cond to own' other))
+
+-- The same on both buffers: k visits, with the engine after them.
+pub record AtOnce (budget : ℕ) (extent : Extent) (e : Engine) (d v : List ℕ) (k : ℕ) (e' : Engine) (d' v' : List ℕ) : Type 0 where
+  pub within : k ≤ budget
+  pub none : k ≡ 0 → (e' ≡ cond (eqb (count_of extent e) 0) (finished_at e e.pattern) e) × (d' ≡ d) × (v' ≡ v)
+  pub any : 0 < k → 0 < count_of extent e
+  pub some : 0 < k → VisitsDone budget extent (with_tile extent e d v) k (with_tile extent e' d' v')
+
+-- On the buffer that the command draws on, as on both.
+abbrev pub LeftOn : ℕ → Extent → Engine → List ℕ → List ℕ → ℕ → Engine → List ℕ → Type 0
+LeftOn budget extent e own other k e' own' =
+    (to : Bool) → (command_in e).to_virtual ≡ to
+    → AtOnce budget extent e (cond to other own) (cond to own other) k e' (cond to other own') (cond to own' other)

@@ -1,13 +1,16 @@
 -- Steps of one display list, one after the other (01, Steps).
-use Rattle.std.specs.Prelude.{◌≡◌, Bool, true, false, List, ℕ, zero, suc, ◌+◌, ◌-◌, ◌≤◌, ◌<◌, length}
+use Rattle.std.specs.Prelude.{◌≡◌, Bool, true, false, Option, Some, None, List, ℕ, zero, suc, ◌+◌, ◌-◌, ◌≤◌, ◌<◌, length}
 use Rattle.geometry.specs.declared.Extent.{Extent}
+use Rattle.entries.specs.Layout.{entry_of}
+use Rattle.entries.specs.Legality.{entry_legal}
+use Rattle.entries.specs.declared.decoding.Entry.{Entry}
 use Rattle.lists.specs.Spans.{end_of}
 use Rattle.lists.specs.Cursors.{next_of, fetched_of}
 use Rattle.lists.specs.declared.cursors.Cursor.{Cursor}
 use Rattle.lists.specs.declared.cursors.Next.{Next}
 use Rattle.lists.specs.declared.cursors.Next.TheVariants.{Ended, Visit, Take, Broken}
 use Rattle.commands.specs.Hatching.{hatches, fill_after}
-use Rattle.commands.specs.Steps.{Scene, scene, visit_of, taken_of}
+use Rattle.commands.specs.Steps.{Scene, scene, visit_of, visits_of, entered_of, taken_of}
 use Rattle.commands.specs.declared.Engine.{Engine}
 use Rattle.leaps.specs.declared.list_runs.Progress.{Progress}
 use Rattle.leaps.specs.declared.hatched.Burst.{Burst}
@@ -62,6 +65,19 @@ pub record Going (l : List ℕ) (extent : Extent) (budget : ℕ) (c₀ : Cursor)
 pub record BurstDone (budget : ℕ) (extent : Extent) (e : Engine) (d v : List ℕ) (r : Burst) (d' v' : List ℕ) : Type 0 where
   pub some : 0 < r.steps → VisitsDone budget extent (with_tile extent e d v) r.steps (with_tile extent r.engine d' v')
   pub none : r.steps ≡ 0 → (hatches e ≡ true) × (budget < left_in extent e) × (with_tile extent r.engine d' v' ≡ with_tile extent e d v)
+
+-- An entry taken, and k pixels at once of the command that it triggers.
+pub record Taken (budget : ℕ) (extent : Extent) (e : Engine) (x : Entry) (d v : List ℕ) (k : ℕ) (e' : Engine) (d' v' : List ℕ) : Type 0 where
+  pub within : k ≤ budget
+  pub visits : with_tile extent e' d' v' ≡ visits_of k extent (with_tile extent (entered_of extent e x) d v)
+  pub busy : (j : ℕ) → j < k → (visits_of j extent (with_tile extent (entered_of extent e x) d v)).engine.under_way ≡ true
+
+-- The entry at a place, taken where it is legal.
+abbrev pub EntryDone : List ℕ → Extent → ℕ → ℕ → Engine → List ℕ → List ℕ → Option ℕ → Engine → List ℕ → List ℕ → Type 0
+EntryDone l extent budget place e d v None e' d' v' =
+    (entry_legal (entry_of l place) ≡ false) × (e' ≡ e) × (d' ≡ d) × (v' ≡ v)
+EntryDone l extent budget place e d v (Some k) e' d' v' =
+    (entry_legal (entry_of l place) ≡ true) × Taken budget extent e (entry_of l place) d v k e' d' v'
 
 -- Entries and commands within a run: with a command left under way some steps are done; with none, the run has ended.
 pub record EntriesRun (l : List ℕ) (extent : Extent) (budget : ℕ) (c₀ : Cursor) (s₀ : Scene) (r : Progress) (d v : List ℕ) : Type 0 where

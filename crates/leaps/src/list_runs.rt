@@ -1,37 +1,18 @@
 // Many steps of one display list.
-ghost use Rattle.std.specs.Prelude.{◌≡◌, true, false, ◌+◌, ◌<◌};
+// Kept: no plainer as one parameter: a command draws on one of the buffers and reads the other, so `visit_on` takes the two apart.
+ghost use Rattle.std.specs.Prelude.{◌≡◌, true, false, cond, ◌/◌, ◌<◌, length};
 ghost use Rattle.entries.specs.Layout.{word_at};
 ghost use Rattle.entries.specs.Legality.{data_legal};
-ghost use Rattle.commands.specs.Entering.{put_of};
-ghost use Rattle.commands.specs.Visits.{count_of};
-ghost use Rattle.leaps.specs.Leaps.{with_tile, buffers_fit, after_visits};
-ghost use Rattle.leaps.specs.ListRuns.{Runs, BurstDone, EntriesRun, Unheld, ListRan};
+ghost use Rattle.commands.specs.Entering.{writes, put_of};
+ghost use Rattle.leaps.specs.Leaps.{with_tile, buffers_fit, AtOnce};
+ghost use Rattle.leaps.specs.ListRuns.{Runs, BurstDone, Taken, EntryDone, EntriesRun, Unheld, ListRan};
 
-use crate::hatched::{Burst, visit_rest};
-use crate::visits::{Visits, visit_on};
+use crate::hatched::{Burst, area, visit_up_to};
+use crate::visits::visit_on;
 use commands::Engine;
 use entries::{command_of, legal_data, word_at};
 use geometry::Extent;
 use lists::Cursor;
-use numbers::{max, min, saturating_sub};
-
-// The pixels of the command under way, which visits `count`, as many as the budget allows; one where the count says that none
-// is left; and of a fill with a tile all or none.
-fn visit_up_to(
-    e: Engine,
-    extent: Extent,
-    count: usize,
-    budget: u64,
-    display: &mut [u8],
-    virt: &mut [u8],
-) -> Burst
-    requires { (e.under_way ≡ true) × (0 < budget) × (count ≡ count_of extent e) }
-    ensures { BurstDone budget extent e display.old virt.old result display.new virt.new }
-{
-    let left = max(1, saturating_sub(count, e.visited as usize));
-    let n = min(budget as usize, left);
-    visit_rest(e, extent, count, n, display, virt)
-}
 
 // Steps of a list: the engine and the list after them.
 #[derive(Clone, Copy)]
@@ -41,50 +22,100 @@ pub struct Progress {
     pub steps: u64,
 }
 
-// An entry's word in its register, and whether it is legal there.
-#[derive(Clone, Copy)]
-pub struct Put {
-    pub engine: Engine,
-    pub legal: bool,
-}
-
-fn put_at(e: Engine, number: u32, list: &[u8], place: usize) -> Put
-    ensures { (result.engine ≡ put_of e number (word_at list.now place)) × (result.legal ≡ data_legal number (word_at list.now place)) }
+// An entry's word in its register, if it is legal there, and whether it is.
+// Kept: the register by its number, a constant in each arm of `take_entry`, as `legal_data` and `put` take it.
+fn put_at(e: &mut Engine, number: u32, list: &[u8], place: usize) -> bool
+    ensures legal { result ≡ data_legal number (word_at list.now place) }
+    ensures put { e.new ≡ cond result (put_of e.old number (word_at list.now place)) e.old }
 {
     let word = word_at(list, place);
-    Put {
-        engine: e.put(number, word),
-        legal: legal_data(number, word),
+    if !legal_data(number, word) {
+        return false;
     }
+    *e = e.put(number, word);
+    true
 }
 
-// An engine after pixels that were visited at once.
-fn engine_after(e: Engine, v: Visits) -> Engine
-    requires { v.finished ≡ false → e.visited + v.steps < 4294967296 }
-    ensures { result ≡ after_visits e v }
+// Pixels of the command under way at once, as many as the budget allows, on the buffer that it draws on: how many. None of one
+// that is visited otherwise.
+#[inline(always)]
+#[tactic(auto, unfolding(crate::specs::Leaps::buffers_fit))]
+fn visit_at_once(
+    e: &mut Engine,
+    extent: Extent,
+    budget: u64,
+    display: &mut [u8],
+    virt: &mut [u8],
+) -> u64
+    requires { (e.old.under_way ≡ true) × (buffers_fit extent (length display.old) (length virt.old) ≡ true) }
+    ensures { AtOnce budget extent e.old display.old virt.old result e.new display.new virt.new }
 {
-    let g = e.registers;
-    let p = v.pattern;
-    if v.finished {
-        return Engine {
-            under_way: false,
-            visited: 0,
-            registers: g,
-            pattern: p,
-            last: g.xy1,
-        };
-    }
-    Engine {
-        under_way: true,
-        visited: e.visited + v.steps as u32,
-        registers: g,
-        pattern: p,
-        last: e.last,
+    if command_of(e.registers.cmd).to_virtual {
+        visit_on(e, extent, budget, virt, display)
+    } else {
+        visit_on(e, extent, budget, display, virt)
     }
 }
 
-// Entries, and the commands that they trigger, up to one that is left under way. An entry's first byte has its register above
-// three zeros: there is an arm for each, so that a run chooses by the register once.
+// A word in the register that triggers, and pixels of the command at once, as many as the budget allows: how many.
+#[inline(always)]
+fn trigger(
+    e: &mut Engine,
+    extent: Extent,
+    word: u32,
+    budget: u64,
+    display: &mut [u8],
+    virt: &mut [u8],
+) -> u64
+    requires { buffers_fit extent (length display.old) (length virt.old) ≡ true }
+    ensures { Taken budget extent e.old (writes 12 word) display.old virt.old result e.new display.new virt.new }
+{
+    *e = e.begin(word);
+    if e.under_way {
+        visit_at_once(e, extent, budget, display, virt)
+    } else {
+        0
+    }
+}
+
+// The entry at a place, with pixels of the command that it triggers: how many, or None of an illegal entry. An entry's first byte
+// has its register above three zeros: there is an arm for each, so that a run chooses by the register once.
+// Kept: the arms: one for all registers takes twice the instructions (docs/DECISIONS.md).
+#[inline(always)]
+fn take_entry(
+    e: &mut Engine,
+    extent: Extent,
+    budget: u64,
+    list: &[u8],
+    place: usize,
+    display: &mut [u8],
+    virt: &mut [u8],
+) -> Option<u64>
+    requires { (place < length list.now / 5) × (buffers_fit extent (length display.old) (length virt.old) ≡ true) }
+    ensures { EntryDone list.now extent budget place e.old display.old virt.old result e.new display.new virt.new }
+{
+    let legal = match list[5 * place] {
+        0 => put_at(e, 0, list, place),
+        8 => put_at(e, 1, list, place),
+        16 => put_at(e, 2, list, place),
+        24 => put_at(e, 3, list, place),
+        32 => put_at(e, 4, list, place),
+        40 => put_at(e, 5, list, place),
+        48 => put_at(e, 6, list, place),
+        56 => put_at(e, 7, list, place),
+        64 => put_at(e, 8, list, place),
+        72 => put_at(e, 9, list, place),
+        80 => put_at(e, 10, list, place),
+        88 => put_at(e, 11, list, place),
+        96 => {
+            return Some(trigger(e, extent, word_at(list, place), budget, display, virt));
+        }
+        _ => false,
+    };
+    legal.then_some(0)
+}
+
+// Entries, and the commands that they trigger, up to one that is left under way.
 fn run_entries(
     start: Engine,
     extent: Extent,
@@ -98,182 +129,45 @@ fn run_entries(
     ensures { EntriesRun list.now extent budget cursor (with_tile extent start display.old virt.old) result display.new virt.new }
 {
     let s = cursor.span;
-    let end = min(s.end(), list.len() / 5);
+    let end = s.end().min(list.len() / 5);
     let mut e = start;
     let mut c = cursor;
     let mut k: u64 = 0;
+    // Kept: no plainer as a `for`, since a turn adds its visits to k.
     while (k < budget) & ((c.next as usize) < end) {
         let place = c.next as usize;
-        match list[5 * place] {
-            0 => {
-                let p = put_at(e, 0, list, place);
-                if !p.legal {
-                    return Progress {
-                        engine: e,
-                        cursor: c,
-                        steps: k,
-                    };
-                }
-                e = p.engine;
-            }
-            8 => {
-                let p = put_at(e, 1, list, place);
-                if !p.legal {
-                    return Progress {
-                        engine: e,
-                        cursor: c,
-                        steps: k,
-                    };
-                }
-                e = p.engine;
-            }
-            16 => {
-                let p = put_at(e, 2, list, place);
-                if !p.legal {
-                    return Progress {
-                        engine: e,
-                        cursor: c,
-                        steps: k,
-                    };
-                }
-                e = p.engine;
-            }
-            24 => {
-                let p = put_at(e, 3, list, place);
-                if !p.legal {
-                    return Progress {
-                        engine: e,
-                        cursor: c,
-                        steps: k,
-                    };
-                }
-                e = p.engine;
-            }
-            32 => {
-                let p = put_at(e, 4, list, place);
-                if !p.legal {
-                    return Progress {
-                        engine: e,
-                        cursor: c,
-                        steps: k,
-                    };
-                }
-                e = p.engine;
-            }
-            40 => {
-                let p = put_at(e, 5, list, place);
-                if !p.legal {
-                    return Progress {
-                        engine: e,
-                        cursor: c,
-                        steps: k,
-                    };
-                }
-                e = p.engine;
-            }
-            48 => {
-                let p = put_at(e, 6, list, place);
-                if !p.legal {
-                    return Progress {
-                        engine: e,
-                        cursor: c,
-                        steps: k,
-                    };
-                }
-                e = p.engine;
-            }
-            56 => {
-                let p = put_at(e, 7, list, place);
-                if !p.legal {
-                    return Progress {
-                        engine: e,
-                        cursor: c,
-                        steps: k,
-                    };
-                }
-                e = p.engine;
-            }
-            64 => {
-                let p = put_at(e, 8, list, place);
-                if !p.legal {
-                    return Progress {
-                        engine: e,
-                        cursor: c,
-                        steps: k,
-                    };
-                }
-                e = p.engine;
-            }
-            72 => {
-                let p = put_at(e, 9, list, place);
-                if !p.legal {
-                    return Progress {
-                        engine: e,
-                        cursor: c,
-                        steps: k,
-                    };
-                }
-                e = p.engine;
-            }
-            80 => {
-                let p = put_at(e, 10, list, place);
-                if !p.legal {
-                    return Progress {
-                        engine: e,
-                        cursor: c,
-                        steps: k,
-                    };
-                }
-                e = p.engine;
-            }
-            88 => {
-                let p = put_at(e, 11, list, place);
-                if !p.legal {
-                    return Progress {
-                        engine: e,
-                        cursor: c,
-                        steps: k,
-                    };
-                }
-                e = p.engine;
-            }
-            96 => {
-                e = e.begin(word_at(list, place));
-                if e.under_way {
-                    let g = e.registers;
-                    let d = command_of(g.cmd);
-                    let v = if d.to_virtual {
-                        visit_on(e, extent, budget - k - 1, virt, display)
-                    } else {
-                        visit_on(e, extent, budget - k - 1, display, virt)
-                    };
-                    e = engine_after(e, v);
-                    k = k + v.steps;
-                    if !v.finished {
-                        c.next = c.next + 1;
-                        return Progress {
-                            engine: e,
-                            cursor: c,
-                            steps: k + 1,
-                        };
-                    }
-                }
-            }
-            _ => {
-                return Progress {
-                    engine: e,
-                    cursor: c,
-                    steps: k,
-                };
-            }
+        let Some(visits) = take_entry(&mut e, extent, budget - k - 1, list, place, display, virt)
+        else {
+            break;
+        };
+        c.next += 1;
+        k += visits + 1;
+        if e.under_way {
+            break;
         }
-        c.next = c.next + 1;
-        k = k + 1;
     }
     Progress {
         engine: e,
         cursor: c,
         steps: k,
+    }
+}
+
+// Pixels of the command under way, as many as the budget allows, at once where it goes so; none of a fill with a tile that the
+// budget cuts.
+#[inline(always)]
+fn visit_some(e: Engine, extent: Extent, budget: u64, display: &mut [u8], virt: &mut [u8]) -> Burst
+    requires { (e.under_way ≡ true) × (0 < budget) × (buffers_fit extent (length display.old) (length virt.old) ≡ true) }
+    ensures { BurstDone budget extent e display.old virt.old result display.new virt.new }
+{
+    let mut after = e;
+    let steps = visit_at_once(&mut after, extent, budget, display, virt);
+    if steps == 0 {
+        return visit_up_to(e, extent, budget, display, virt);
+    }
+    Burst {
+        engine: after,
+        steps,
     }
 }
 
@@ -293,41 +187,22 @@ fn run_unheld(
     let mut e = start;
     let mut c = cursor;
     let mut k: u64 = 0;
+    // Kept: no plainer as a `for`, since a turn adds its steps to k.
     while k < budget {
         if e.under_way {
-            let g = e.registers;
-            let d = command_of(g.cmd);
-            let v = if d.to_virtual {
-                visit_on(e, extent, budget - k, virt, display)
-            } else {
-                visit_on(e, extent, budget - k, display, virt)
-            };
-            if v.steps == 0 {
-                let b = visit_up_to(e, extent, e.count(extent), budget - k, display, virt);
-                e = b.engine;
-                if b.steps == 0 {
-                    return Progress {
-                        engine: e,
-                        cursor: c,
-                        steps: k,
-                    };
-                }
-                k = k + b.steps;
-            } else {
-                e = engine_after(e, v);
-                k = k + v.steps;
+            let b = visit_some(e, extent, budget - k, display, virt);
+            e = b.engine;
+            k += b.steps;
+            if b.steps == 0 {
+                break;
             }
         } else {
             let r = run_entries(e, extent, c, budget - k, list, display, virt);
             e = r.engine;
             c = r.cursor;
-            k = k + r.steps;
+            k += r.steps;
             if !e.under_way {
-                return Progress {
-                    engine: e,
-                    cursor: c,
-                    steps: k,
-                };
+                break;
             }
         }
     }
@@ -339,14 +214,16 @@ fn run_unheld(
 }
 
 // Whether both buffers have that extent, with no more rows than coordinates reach.
+#[tactic(auto, unfolding(crate::specs::Leaps::buffers_fit))]
 fn buffers_fit(extent: Extent, display: usize, virt: usize) -> bool
     ensures { result ≡ buffers_fit extent display virt }
 {
-    let area = (extent.width as usize) * (extent.height as usize);
+    let area = area(extent);
     (extent.height <= 65536) & (display == area) & (virt == area)
 }
 
 // The same, and whether an illegal entry ended them within the budget.
+// Kept: `broken` beside the steps, which are taken in both cases.
 #[derive(Clone, Copy)]
 pub struct ListRun {
     pub engine: Engine,
@@ -368,9 +245,8 @@ pub fn run_list(
 ) -> ListRun
     ensures { ListRan list.now extent budget cursor (with_tile extent start display.old virt.old) result display.new virt.new }
 {
-    let s = cursor.span;
     let fit = buffers_fit(extent, display.len(), virt.len());
-    if (4294967295 < s.end()) | !fit {
+    if (4294967295 < cursor.span.end()) | !fit {
         return ListRun {
             engine: start,
             cursor,
@@ -379,13 +255,11 @@ pub fn run_list(
         };
     }
     let r = run_unheld(start, extent, cursor, budget, list, display, virt);
-    let e = r.engine;
-    let c = r.cursor;
-    let ended = c.ended(e.under_way);
+    let ended = r.cursor.ended(r.engine.under_way);
     ListRun {
-        engine: e,
-        cursor: c,
+        engine: r.engine,
+        cursor: r.cursor,
         steps: r.steps,
-        broken: (r.steps < budget) & !ended & !e.hatches(),
+        broken: (r.steps < budget) & !ended & !r.engine.hatches(),
     }
 }

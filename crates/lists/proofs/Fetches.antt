@@ -14,7 +14,7 @@ use Rattle.entries.specs.Layout.{entry_of, decoded_of}
 use Rattle.entries.specs.Legality.{decoded_legal, entry_legal, legal_at}
 use Rattle.entries.proofs.Decodes.{decoded-whole, decoded-none}
 use Rattle.entries.specs.declared.decoding.Entry.{Entry}
-use Rattle.entries.specs.declared.decoding.Decoded.{Decoded}
+use Rattle.std.specs.Prelude.{Option}
 use Rattle.lists.specs.Spans.{end_of}
 use Rattle.lists.specs.Cursors.{judged, next_of, fetched_of, ended_of, rest_of, is_empty, AllLegal, FetchTakesTheHead}
 use Rattle.lists.specs.declared.cursors.Cursor.{Cursor}
@@ -100,7 +100,7 @@ module _ (l : List ℕ) (c : Cursor) (u : Bool) where
   ended-next h =
       sym (next-ended (ended-resting l c u h) (leb-true (end_of c.span) c.next (and_right (not u) (leb (end_of c.span) c.next) h)))
 
-  pub next-read : u ≡ false → c.next < end_of c.span → (d e : Decoded) → d ≡ decoded_of l c.next → d ≡ e
+  pub next-read : u ≡ false → c.next < end_of c.span → (d e : Option Entry) → d ≡ decoded_of l c.next → d ≡ e
       → judged e ≡ next_of l c u
   unfolding next_of
   next-read h k d e p q = rw (h, lt-leb (end_of c.span) c.next k) (ap judged (sym q ∙ p))

@@ -1,13 +1,13 @@
 -- A store that does not touch a list: it writes no entry that the list holds, and what is left of the list reads the
--- same after it. And the test of touching without a sum.
+-- same after it.
 -- Assumes nothing.
 use mathlib.Core.Path.{◌≡◌, refl, ap₂, sym, ◌∙◌}
-use mathlib.Core.Bool.{Bool, true, false, ◌&&◌, false≢true}
+use mathlib.Core.Bool.{false, false≢true}
 use mathlib.Core.List.{List, ◌∷◌}
 use mathlib.Core.Logic.{◌⊎◌, inl, inr, ⊎_elim}
 use Prim.Native.Nat.{ℕ, zero, suc, ◌+◌, ◌-◌, ◌*◌, ◌≤◌, ◌<◌}
 use native.Mathlib.Omega.{arith}
-use borrow.Author.Tests.{ltb-true, ltb-false, lt-ltb, le-ltb, leb-true}
+use borrow.Author.Tests.{ltb-true, ltb-false, lt-ltb, leb-true}
 use lib.Dec.{leb, ltb}
 use lib.ListN.{length, get_or}
 use Rattle.lemmas.specs.Memory.{put_into}
@@ -51,28 +51,6 @@ untouched-is-not-held s first n k free low high =
 
     beyond : first + n ≤ k → ⊥
     beyond b = omega arith
-
--- the test by the entries between `first` and the start
-pub touch-by-gap : (s : Span) (first n : ℕ) → (ltb first (end_of s) && ltb (s.start - first) n) ≡ touches s first n
-touch-by-gap s first n =
-    by_cases (ltb 0 n)
-    (λ t.
-    by_cases (ltb first (end_of s))
-    (λ u.
-    by_cases (ltb s.start (first + n))
-    (λ v.
-    let some = ltb-true 0 n t in
-    let near = ltb-true s.start (first + n) v in
-    rw (t, u, v, lt-ltb (s.start - first) n (omega arith)))
-    (λ v. let far = ltb-false s.start (first + n) v in rw (t, u, v, le-ltb (s.start - first) n (omega arith))))
-    (λ u. rw (t, u)))
-    (λ t.
-    let none = ltb-false 0 n t in
-    rw (t, le-ltb (s.start - first) n (omega arith)) (either (ltb first (end_of s))))
-  where
-    either : (b : Bool) → (b && false) ≡ false
-    either true = refl
-    either false = refl
 
 module _ (l : List ℕ) (first : ℕ) (bytes : List ℕ) (n : ℕ) (h : 5 * first + length bytes ≤ length l) (e : length bytes ≡ 5 * n) where
   byte-stays : (k i : ℕ) → i < 5 → (k < first) ⊎ (first + n ≤ k) → get_or (put_into l (5 * first) bytes) (5 * k + i) 0 ≡ get_or l (5 * k + i) 0

@@ -1,11 +1,9 @@
 -- Where a run stands in a list (01, Steps): its next step, and what is left of it.
-use Rattle.std.specs.Prelude.{◌≡◌, Bool, true, false, not, cond, ◌&&◌, List, [], ◌∷◌, ℕ, zero, suc, ◌+◌, ◌-◌, ◌*◌, ◌≤◌, leb, ltb, length}
+use Rattle.std.specs.Prelude.{◌≡◌, Bool, true, false, not, cond, Option, Some, None, ◌&&◌, List, [], ◌∷◌, ℕ, zero, suc, ◌+◌, ◌-◌, ◌*◌, ◌≤◌, leb, ltb, length}
 use Rattle.lemmas.specs.Memory.{put_into}
 use Rattle.entries.specs.Layout.{entry_of, decoded_of}
 use Rattle.entries.specs.Legality.{entry_legal}
 use Rattle.entries.specs.declared.decoding.Entry.{Entry}
-use Rattle.entries.specs.declared.decoding.Decoded.{Decoded}
-use Rattle.entries.specs.declared.decoding.Decoded.TheVariants.{Whole, Nothing}
 use Rattle.lists.specs.Spans.{end_of, touches}
 use Rattle.lists.specs.declared.spans.Span.{Span}
 use Rattle.lists.specs.declared.cursors.Cursor.{Cursor}
@@ -24,9 +22,9 @@ cursor_ok c under_way =
     (leb c.span.start c.next && ltb c.next (end_of c.span))
 
 -- What a fetched entry is.
-abbrev pub judged : Decoded → Next
-judged (Whole e) = cond (entry_legal e) (Take e) Broken
-judged Nothing = Broken
+abbrev pub judged : Option Entry → Next
+judged (Some e) = cond (entry_legal e) (Take e) Broken
+judged None = Broken
 
 -- "One step is one entry fetched, or one pixel visited": what the next step is, a pixel of the command under way, else the
 -- next entry.

@@ -1,9 +1,7 @@
 -- The span of a list in list memory (01, What the engine has): "A list is a start entry and a count."
-use Rattle.std.specs.Prelude.{◌≡◌, Bool, false, cond, ◌&&◌, List, ℕ, zero, suc, ◌+◌, ◌≤◌, ◌<◌, eqb, leb, ltb}
+use Rattle.std.specs.Prelude.{◌≡◌, Bool, false, cond, Option, Some, None, ◌&&◌, List, ℕ, zero, suc, ◌+◌, ◌≤◌, ◌<◌, eqb, leb, ltb}
 use Rattle.entries.specs.Legality.{legal_at}
 use Rattle.lists.specs.declared.spans.Span.{Span}
-use Rattle.lists.specs.declared.spans.Illegal.{Illegal}
-use Rattle.lists.specs.declared.spans.Illegal.TheVariants.{At, Nowhere}
 
 abbrev pub span_of : ℕ → ℕ → Span
 span_of start count = record { start = start; count = count }
@@ -24,11 +22,11 @@ abbrev pub is_none : Span → Bool
 is_none s = eqb s.start 0 && eqb s.count 0
 
 -- The first illegal one of n entries from place k on, and of a list.
-unfoldable pub illegal_from : List ℕ → ℕ → ℕ → Illegal
-illegal_from l k zero = Nowhere
-illegal_from l k (suc n) = cond (legal_at l k) (illegal_from l (suc k) n) (At k)
+unfoldable pub illegal_from : List ℕ → ℕ → ℕ → Option ℕ
+illegal_from l k zero = None
+illegal_from l k (suc n) = cond (legal_at l k) (illegal_from l (suc k) n) (Some k)
 
-abbrev pub first_illegal : List ℕ → Span → Illegal
+abbrev pub first_illegal : List ℕ → Span → Option ℕ
 first_illegal l s = illegal_from l s.start s.count
 
 -- A list holds all its entries, fetched or not.

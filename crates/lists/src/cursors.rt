@@ -18,20 +18,17 @@ impl Cursor {
         ensures { result ≡ cursor_ok self under_way }
     {
         let s = self.span;
-        let end = s.start as u64 + s.count as u64;
         if under_way {
-            return (s.start < self.next) & (self.next as u64 <= end);
+            return (s.start < self.next) & (self.next as usize <= s.end());
         }
-        (s.start <= self.next) & ((self.next as u64) < end)
+        (s.start <= self.next) & ((self.next as usize) < s.end())
     }
 
     // Whether neither entries nor pixels are left.
     pub fn ended(self, under_way: bool) -> bool
         ensures { result ≡ ended_of self under_way }
     {
-        let s = self.span;
-        let end = s.start as u64 + s.count as u64;
-        !under_way & (end <= self.next as u64)
+        !under_way & (self.span.end() <= self.next as usize)
     }
 }
 

@@ -7,4 +7,4 @@ mod cursors;
 mod spans;
 
 pub use cursors::{Cursor, Next};
-pub use spans::{Illegal, Span, first_illegal};
+pub use spans::{Span, first_illegal};

@@ -3,10 +3,9 @@ ghost use Rattle.std.specs.Prelude.{◌≡◌};
 ghost use Rattle.lists.specs.Spans.{end_of, span_ok, is_none, first_illegal, touches};
 
 use entries::legal_at;
-use numbers::saturating_sub;
 
 // Start entry and count.
-#[derive(Clone, Copy)]
+#[derive(Clone, Copy, PartialEq, Eq)]
 pub struct Span {
     pub start: u32,
     pub count: u32,
@@ -24,14 +23,14 @@ impl Span {
     pub fn fits(self, entries: u32) -> bool
         ensures { result ≡ span_ok self entries }
     {
-        (1 <= self.count) & (self.start as u64 + self.count as u64 <= entries as u64)
+        (1 <= self.count) & (self.end() <= entries as usize)
     }
 
     // Whether it is the span of no list, all zeros.
     pub fn is_none(self) -> bool
         ensures { result ≡ is_none self }
     {
-        (self.start == 0) & (self.count == 0)
+        self == Span { start: 0, count: 0 }
     }
 
     // Whether n entries from `first` on have one of the list among them, fetched or not.
@@ -39,30 +38,24 @@ impl Span {
         ensures { result ≡ touches self first n }
     {
         let end = self.end();
-        let gap = saturating_sub(self.start as usize, first);
+        let gap = (self.start as usize).saturating_sub(first);
         (first < end) & (gap < n)
     }
 }
 
-// The place of a list's first illegal entry.
-#[derive(Clone, Copy)]
-pub enum Illegal {
-    At(usize),
-    Nowhere,
-}
-
-// The first entry of a list that is not legal.
-pub fn first_illegal(list: &[u8], span: Span) -> Illegal
+// The place of the first entry of a list that is not legal.
+// Kept: document 01 names the form for this place: a loop over entries, left by break with the place of the first illegal one.
+pub fn first_illegal(list: &[u8], span: Span) -> Option<usize>
     ensures { result ≡ first_illegal list.now span }
 {
     let mut place = span.start as usize;
     let mut left = span.count as usize;
     loop {
         if left < 1 {
-            break Illegal::Nowhere;
+            break None;
         }
         if !legal_at(list, place) {
-            break Illegal::At(place);
+            break Some(place);
         }
         place += 1;
         left -= 1;

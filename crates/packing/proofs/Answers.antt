@@ -1,7 +1,7 @@
 -- What a conversion answers, test by test; what it says of a list that it is done; and the output that it leaves.
 -- Assumes nothing.
 use mathlib.Core.Path.{◌≡◌, refl, ap, sym, ◌∙◌}
-use mathlib.Core.Bool.{Bool, true, false, not, ◌&&◌, ◌||◌, false≢true}
+use mathlib.Core.Bool.{Bool, true, false, not, ◌&&◌, ◌||◌}
 use mathlib.Core.List.{List, ◌++◌}
 use Prim.Native.Nat.{ℕ, ◌+◌, ◌*◌, ◌/◌, ◌%◌, ◌≤◌, ◌<◌}
 use native.Mathlib.Omega.{arith}
@@ -9,7 +9,7 @@ use borrow.Author.Tests.{eqb-true, eqb-false, eq-eqb, ne_eqb, lt-ltb, le-ltb, lt
 use lib.Dec.{eqb, ltb}
 use lib.ListN.{length, drop}
 use lib.Seq.{sets}
-use Rattle.lemmas.proofs.Booleans.{by_cases, or-none-left, or-none-right, first_of, second-of}
+use Rattle.lemmas.proofs.Booleans.{by_cases, or-none-left, or-none-right}
 use Rattle.lemmas.proofs.Memories.{sets-front}
 use Rattle.entries.specs.Layout.{entry_of}
 use Rattle.entries.specs.Legality.{entry_legal}
@@ -17,11 +17,12 @@ use Rattle.entries.specs.declared.decoding.Entry.{Entry}
 use Rattle.packing.specs.Editions.{strung, entry_bytes, group_bytes, groups_for, packed_group, packed_of, list_of, or_missing}
 use Rattle.packing.specs.Groups.{group_of, position_of, count_of}
 use Rattle.packing.specs.Reports.{Report, report, report_of}
-use Rattle.packing.specs.Conversions.{Found, fails_at, nowhere, first_not, holds, refused_or, judged_by, legality_of, pack_report}
+use Rattle.std.specs.Prelude.{Option, Some, None, Ok, Err}
+use Rattle.packing.specs.Conversions.{first_not, holds, refused_or, judged_by, legality_of, pack_report}
 use Rattle.packing.specs.Conversions.{passes, well_formed, judgement, last_has_one, judged_whole, unpack_report}
-use Rattle.packing.specs.Conversions.{converted, converted_to, pack_of, unpack_of}
-use Rattle.packing.specs.declared.statuses.FileStatus.{FileStatus}
-use Rattle.packing.specs.declared.statuses.FileStatus.TheVariants.{Done, WrongSize, NoEntries, TooMany, IllegalEntry, MalformedFile}
+use Rattle.packing.specs.Conversions.{converted, converted_to, output_by, pack_of, unpack_of}
+use Rattle.packing.specs.declared.outcomes.FileRefusal.{FileRefusal}
+use Rattle.packing.specs.declared.outcomes.FileRefusal.TheVariants.{WrongSize, NoEntries, TooMany, IllegalEntry, MalformedFile}
 use Rattle.packing.proofs.Runs.{length-strung}
 use Rattle.packing.proofs.Puts.{entry_length, group-length, packed-is}
 use Rattle.packing.proofs.Judges.{count_most}
@@ -103,7 +104,7 @@ module _ (l : List ℕ) (room : ℕ) where
         let whole = eqb (14 * groups) (length l) in
         omega (arith, h, eqb-true (14 * groups) (length l) (not-false whole (or-none-left (not whole) (ltb (room / 5) n) e)))
 
--- ---- what 'done' says
+-- ---- what a conversion that is done says
 record Went (a b c : Bool) (x : Report) (n : ℕ) : Type 0 where
   pub size : a ≡ false
   pub some : b ≡ false
@@ -119,7 +120,7 @@ went false true c x n e = absurd (differ (report 3 0 0) n e (λ k. omega arith))
 went false false true x n e = absurd (differ (report 4 0 0) n e (λ k. omega arith))
 went false false false x n e = record { size = refl; some = refl; few = refl; judged = e }
 
-abbrev pub illegal_of : List ℕ → Found
+abbrev pub illegal_of : List ℕ → Option ℕ
 illegal_of l = first_not (λ k. entry_legal (entry_of l k)) 0 (length l / 5)
 
 pub record Packs (l : List ℕ) (room n : ℕ) : Type 0 where
@@ -127,12 +128,12 @@ pub record Packs (l : List ℕ) (room n : ℕ) : Type 0 where
   pub fits : groups_for (length l / 5) ≤ room / 14
   pub some : length l ≡ 0 → ⊥
   pub few : length l / 5 ≤ 4096
-  pub legal : illegal_of l ≡ nowhere
+  pub legal : illegal_of l ≡ None
   pub bytes : n ≡ 14 * groups_for (length l / 5)
 
-legal-done : (count n : ℕ) (i : Found) → judged_by count i ≡ report 0 0 n → (i ≡ nowhere) × (n ≡ 14 * groups_for count)
-legal-done count n (fails_at p) e = absurd (differ (report 6 p 0) n e (λ k. omega arith))
-legal-done count n nowhere e = (refl, sym (ap (λ (r : Report). r.written) e))
+legal-done : (count n : ℕ) (i : Option ℕ) → judged_by count i ≡ report 0 0 n → (i ≡ None) × (n ≡ 14 * groups_for count)
+legal-done count n (Some p) e = absurd (differ (report 6 p 0) n e (λ k. omega arith))
+legal-done count n None e = (refl, sym (ap (λ (r : Report). r.written) e))
 
 pub packs : (l : List ℕ) (room n : ℕ) → pack_report l room ≡ report 0 0 n → Packs l room n
 unfolding pack_report
@@ -154,7 +155,7 @@ packs l room n e =
 abbrev pub sound : List ℕ → Bool
 sound l = last_has_one l (count_of l) && holds (λ k. well_formed (group_of l k) (3 * k) (count_of l)) 0 (length l / 14)
 
-abbrev pub failing_of : List ℕ → Found
+abbrev pub failing_of : List ℕ → Option ℕ
 failing_of l = first_not (λ p. passes (position_of l p)) 0 (3 * (length l / 14))
 
 pub record Unpacks (l : List ℕ) (room n : ℕ) : Type 0 where
@@ -162,15 +163,15 @@ pub record Unpacks (l : List ℕ) (room n : ℕ) : Type 0 where
   pub fits : count_of l ≤ room / 5
   pub some : length l ≡ 0 → ⊥
   pub few : count_of l ≤ 4096
-  pub legal : failing_of l ≡ nowhere
+  pub legal : failing_of l ≡ None
   pub formed : sound l ≡ true
   pub bytes : n ≡ 5 * count_of l
 
-judged-done : (count n : ℕ) (s : Bool) (i : Found) → judgement count s i ≡ report 0 0 n
-    → (i ≡ nowhere) × (s ≡ true) × (n ≡ 5 * count)
-judged-done count n s (fails_at p) e = absurd (differ (report 6 p 0) n e (λ k. omega arith))
-judged-done count n true nowhere e = (refl, refl, sym (ap (λ (r : Report). r.written) e))
-judged-done count n false nowhere e = absurd (differ (report 10 0 0) n e (λ k. omega arith))
+judged-done : (count n : ℕ) (s : Bool) (i : Option ℕ) → judgement count s i ≡ report 0 0 n
+    → (i ≡ None) × (s ≡ true) × (n ≡ 5 * count)
+judged-done count n s (Some p) e = absurd (differ (report 6 p 0) n e (λ k. omega arith))
+judged-done count n true None e = (refl, refl, sym (ap (λ (r : Report). r.written) e))
+judged-done count n false None e = absurd (differ (report 10 0 0) n e (λ k. omega arith))
 
 pub unpacks : (l : List ℕ) (room n : ℕ) → unpack_report l room ≡ report 0 0 n → Unpacks l room n
 unfolding unpack_report
@@ -200,102 +201,72 @@ packed-size e n =
     length-strung 14 (λ g. group_bytes (o (3 * g)) (o (3 * g + 1)) (o (3 * g + 2)))
     (λ g. group-length (o (3 * g)) (o (3 * g + 1)) (o (3 * g + 2))) (groups_for n)
 
--- ---- a status is done, or nothing is written
-abbrev is_done : FileStatus → Bool
-is_done a = eqb (report_of a).number 0
+-- ---- a refusal leaves the output
+refusal-keeps : (e : FileRefusal) (new out : List ℕ) → output_by (report_of (Err e)) new out ≡ out
+refusal-keeps WrongSize new out = refl
+refusal-keeps NoEntries new out = refl
+refusal-keeps TooMany new out = refl
+refusal-keeps (IllegalEntry k) new out = refl
+refusal-keeps MalformedFile new out = refl
 
-done-is : (a : FileStatus) → is_done a ≡ true → report_of a ≡ report 0 0 (report_of a).written
-done-is (Done n) t = refl
-done-is WrongSize t = absurd (false≢true t)
-done-is NoEntries t = absurd (false≢true t)
-done-is TooMany t = absurd (false≢true t)
-done-is (IllegalEntry k) t = absurd (false≢true t)
-done-is MalformedFile t = absurd (false≢true t)
+refused-with : (e : FileRefusal) (new out : List ℕ) (r : Report) → report_of (Err e) ≡ r → converted (Err e) out ≡ converted_to new out r
+refused-with e new out r p = ap (converted (Err e)) (sym (refusal-keeps e new out)) ∙ ap (converted_to new out) p
 
-refused-is : (a : FileStatus) → is_done a ≡ false → (report_of a).written ≡ 0
-refused-is (Done n) t = absurd (false≢true (sym t))
-refused-is WrongSize t = refl
-refused-is NoEntries t = refl
-refused-is TooMany t = refl
-refused-is (IllegalEntry k) t = refl
-refused-is MalformedFile t = refl
+-- ---- what packing leaves; n are the bytes written
+pub pack-refused : (l out : List ℕ) (e : FileRefusal) → report_of (Err e) ≡ pack_report l (length out) → converted (Err e) out ≡ pack_of l out
+unfolding pack_of
+pack-refused l out e = refused-with e (packed_of (entry_of l) (length l / 5)) out (pack_report l (length out))
 
--- the report and the output together, from both cases
-conversion : (a : FileStatus) (r : Report) (m new out : List ℕ) → report_of a ≡ r
-    → (is_done a ≡ true → m ≡ new ++ drop (report_of a).written out) → (is_done a ≡ false → m ≡ out)
-    → converted a m ≡ converted_to new out r
-conversion a r m new out e p q =
-    let b = new ++ drop (report_of a).written out in
-    ap (converted a) (by_cases (is_done a) (λ t. p t ∙ first_of (is_done a) b out t) (λ t. q t ∙ second-of (is_done a) b out t))
-    ∙ ap (converted_to new out) e
+pub pack-room : (l : List ℕ) (room n : ℕ) → report 0 0 n ≡ pack_report l room → n / 14 ≤ room / 14
+pack-room l room n e = let p = packs l room n (sym e) in omega (arith, p.fits, p.bytes)
 
--- ---- what packing leaves; w are the bytes that the status says
-pub pack-room : (l : List ℕ) (room w : ℕ) (a : FileStatus) → report_of a ≡ pack_report l room → w ≡ (report_of a).written
-    → w / 14 ≤ room / 14
-pack-room l room w a e f =
-    by_cases (is_done a)
-    (λ t. let p = packs l room (report_of a).written (sym e ∙ done-is a t) in omega (arith, p.fits, p.bytes))
-    (λ t. let z = refused-is a t in omega arith)
-
-no-groups : (l m out : List ℕ) (w : ℕ) → w ≡ 0 → m ≡ sets out 0 (strung (packed_group l) (w / 14)) → m ≡ out
-unfolding strung
-no-groups l m out w f g = g ∙ ap (λ (k : ℕ). sets out 0 (strung (packed_group l) (k / 14))) f
-
-all-groups : (l m out : List ℕ) (w n : ℕ) → Packs l (length out) n → w ≡ n → m ≡ sets out 0 (strung (packed_group l) (w / 14))
+all-groups : (l m out : List ℕ) (n : ℕ) → Packs l (length out) n → m ≡ sets out 0 (strung (packed_group l) (n / 14))
     → m ≡ packed_of (entry_of l) (length l / 5) ++ drop n out
-all-groups l m out w n p f g =
+all-groups l m out n p g =
     let s = length l / 5 in
     let b = p.bytes in
-    let k : w / 14 ≡ groups_for s = omega arith in
+    let k : n / 14 ≡ groups_for s = omega arith in
     let size = packed-size (entry_of l) s in
     let fits = p.fits in
     g ∙ ap (λ (j : ℕ). sets out 0 (strung (packed_group l) j)) k ∙ ap (sets out 0) (packed-is l)
     ∙ sets-front (packed_of (entry_of l) s) out (omega arith)
     ∙ ap (λ (j : ℕ). packed_of (entry_of l) s ++ drop j out) (size ∙ sym b)
 
-pub pack-leaves : (l out m : List ℕ) (w : ℕ) (a : FileStatus) → report_of a ≡ pack_report l (length out) → w ≡ (report_of a).written
-    → m ≡ sets out 0 (strung (packed_group l) (w / 14)) → converted a m ≡ pack_of l out
+pub pack-done : (l out m : List ℕ) (n : ℕ) → report 0 0 n ≡ pack_report l (length out) → m ≡ sets out 0 (strung (packed_group l) (n / 14))
+    → converted (Ok n) m ≡ pack_of l out
 unfolding pack_of
-pack-leaves l out m w a e f g =
-    let n = (report_of a).written in
-    conversion a (pack_report l (length out)) m (packed_of (entry_of l) (length l / 5)) out e
-    (λ t. all-groups l m out w n (packs l (length out) n (sym e ∙ done-is a t)) f g)
-    (λ t. no-groups l m out w (f ∙ refused-is a t) g)
+pack-done l out m n e g =
+    ap (converted (Ok n)) (all-groups l m out n (packs l (length out) n (sym e)) g)
+    ∙ ap (converted_to (packed_of (entry_of l) (length l / 5)) out) e
 
 -- ---- and unpacking
-pub unpack-room : (l : List ℕ) (room w : ℕ) (a : FileStatus) → report_of a ≡ unpack_report l room → w ≡ (report_of a).written
-    → (w / 5 ≤ room / 5) × (w / 5 ≤ 3 * (length l / 14))
-unpack-room l room w a e f =
-    by_cases (is_done a)
-    (λ t.
-    let p = unpacks l room (report_of a).written (sym e ∙ done-is a t) in
+pub unpack-refused : (l out : List ℕ) (e : FileRefusal) → report_of (Err e) ≡ unpack_report l (length out) → converted (Err e) out ≡ unpack_of l out
+unfolding unpack_of
+unpack-refused l out e = refused-with e (list_of (position_of l) (count_of l)) out (unpack_report l (length out))
+
+pub unpack-room : (l : List ℕ) (room n : ℕ) → report 0 0 n ≡ unpack_report l room → (n / 5 ≤ room / 5) × (n / 5 ≤ 3 * (length l / 14))
+unpack-room l room n e =
+    let p = unpacks l room n (sym e) in
     let b = p.bytes in
     let fits = p.fits in
     let most = count_most l in
-    (omega arith, omega arith))
-    (λ t. let z = refused-is a t in (omega arith, omega arith))
+    (omega arith, omega arith)
 
-no-entries : (l m out : List ℕ) (w : ℕ) → w ≡ 0 → m ≡ sets out 0 (list_of (position_of l) (w / 5)) → m ≡ out
-unfolding strung
-no-entries l m out w f g = g ∙ ap (λ (k : ℕ). sets out 0 (list_of (position_of l) (k / 5))) f
-
-all-entries : (l m out : List ℕ) (w n : ℕ) → Unpacks l (length out) n → w ≡ n → m ≡ sets out 0 (list_of (position_of l) (w / 5))
+all-entries : (l m out : List ℕ) (n : ℕ) → Unpacks l (length out) n → m ≡ sets out 0 (list_of (position_of l) (n / 5))
     → m ≡ list_of (position_of l) (count_of l) ++ drop n out
-all-entries l m out w n p f g =
+all-entries l m out n p g =
     let s = count_of l in
     let b = p.bytes in
-    let k : w / 5 ≡ s = omega arith in
+    let k : n / 5 ≡ s = omega arith in
     let size = list-size (position_of l) s in
     let fits = p.fits in
     g ∙ ap (λ (j : ℕ). sets out 0 (list_of (position_of l) j)) k
     ∙ sets-front (list_of (position_of l) s) out (omega arith)
     ∙ ap (λ (j : ℕ). list_of (position_of l) s ++ drop j out) (size ∙ sym b)
 
-pub unpack-leaves : (l out m : List ℕ) (w : ℕ) (a : FileStatus) → report_of a ≡ unpack_report l (length out) → w ≡ (report_of a).written
-    → m ≡ sets out 0 (list_of (position_of l) (w / 5)) → converted a m ≡ unpack_of l out
+pub unpack-done : (l out m : List ℕ) (n : ℕ) → report 0 0 n ≡ unpack_report l (length out) → m ≡ sets out 0 (list_of (position_of l) (n / 5))
+    → converted (Ok n) m ≡ unpack_of l out
 unfolding unpack_of
-unpack-leaves l out m w a e f g =
-    let n = (report_of a).written in
-    conversion a (unpack_report l (length out)) m (list_of (position_of l) (count_of l)) out e
-    (λ t. all-entries l m out w n (unpacks l (length out) n (sym e ∙ done-is a t)) f g)
-    (λ t. no-entries l m out w (f ∙ refused-is a t) g)
+unpack-done l out m n e g =
+    ap (converted (Ok n)) (all-entries l m out n (unpacks l (length out) n (sym e)) g)
+    ∙ ap (converted_to (list_of (position_of l) (count_of l)) out) e

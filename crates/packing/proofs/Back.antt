@@ -14,7 +14,7 @@ use Rattle.entries.specs.Layout.{joined, entry_of}
 use Rattle.entries.specs.declared.decoding.Entry.{Entry}
 use Rattle.packing.specs.Editions.{head_of, entry_bytes, group_bytes, missing, or_missing, groups_for}
 use Rattle.packing.specs.Editions.{packed_of, list_of}
-use Rattle.packing.specs.Groups.{word_at, head_at, group_of, position_of, count_of}
+use Rattle.packing.specs.Groups.{part, word_at, head_at, group_of, position_of, count_of}
 use Rattle.packing.specs.RoundTrip.{Bytes}
 use Rattle.packing.specs.declared.groups.Group.{Group}
 use Rattle.packing.proofs.Runs.{get_d-strung}
@@ -188,7 +188,7 @@ module _ (e : ℕ → Entry) (n : ℕ) (plain : (k : ℕ) → k < n → Plain (e
         ∙ head-zero (o (3 * g)).register (o (3 * g + 1)).register (o (3 * g + 2)).register (or-plain (3 * g)).register
         (or-plain (3 * g + 1)).register (or-plain (3 * g + 2)).register
 
-    pub first_back : (group_of packing g).first ≡ o (3 * g)
+    pub first_back : (part (group_of packing g) 0) ≡ o (3 * g)
     first_back =
         entry-same (o (3 * g)) (head_at packing g / 1024 % 32) 0 (word_at packing (14 * g + 2))
         (ap (λ (x : ℕ). x / 1024 % 32) head-back
@@ -196,7 +196,7 @@ module _ (e : ℕ → Entry) (n : ℕ) (plain : (k : ℕ) → k < n → Plain (e
         (or-plain (3 * g + 1)).register (or-plain (3 * g + 2)).register)
         (sym (or-plain (3 * g)).spare) word_first
 
-    pub second_back : (group_of packing g).second ≡ o (3 * g + 1)
+    pub second_back : (part (group_of packing g) 1) ≡ o (3 * g + 1)
     second_back =
         entry-same (o (3 * g + 1)) (head_at packing g / 32 % 32) 0 (word_at packing (14 * g + 6))
         (ap (λ (x : ℕ). x / 32 % 32) head-back
@@ -204,7 +204,7 @@ module _ (e : ℕ → Entry) (n : ℕ) (plain : (k : ℕ) → k < n → Plain (e
         (or-plain (3 * g + 1)).register (or-plain (3 * g + 2)).register)
         (sym (or-plain (3 * g + 1)).spare) word-second
 
-    pub third_back : (group_of packing g).third ≡ o (3 * g + 2)
+    pub third_back : (part (group_of packing g) 2) ≡ o (3 * g + 2)
     third_back =
         entry-same (o (3 * g + 2)) (head_at packing g % 32) 0 (word_at packing (14 * g + 10))
         (ap (λ (x : ℕ). x % 32) head-back
@@ -237,18 +237,18 @@ module _ (e : ℕ → Entry) (n : ℕ) (plain : (k : ℕ) → k < n → Plain (e
         by_cases (ltb (3 * g + 2) n)
         (λ t.
         let u = ltb-true (3 * g + 2) n t in
-        sym (count-is packing x 0 refl (closing-none x (there x.third (3 * g + 2) u (third_back g h)))) ∙ omega arith)
+        sym (count-is packing x 0 refl (closing-none x (there (part x 2) (3 * g + 2) u (third_back g h)))) ∙ omega arith)
         (λ t.
         let u = ltb-false (3 * g + 2) n t in
-        let z = gone x.third (3 * g + 2) u (third_back g h) in
+        let z = gone (part x 2) (3 * g + 2) u (third_back g h) in
         by_cases (ltb (3 * g + 1) n)
         (λ v.
         let w = ltb-true (3 * g + 1) n v in
-        sym (count-is packing x 1 refl (closing-one x z (there x.second (3 * g + 1) w (second_back g h)))) ∙ omega arith)
+        sym (count-is packing x 1 refl (closing-one x z (there (part x 1) (3 * g + 1) w (second_back g h)))) ∙ omega arith)
         (λ v.
         let w = ltb-false (3 * g + 1) n v in
-        let y = gone x.second (3 * g + 1) w (second_back g h) in
-        sym (count-is packing x 2 refl (closing-two x z y (there x.first (3 * g) (omega arith) (first_back g h)))) ∙ omega arith))
+        let y = gone (part x 1) (3 * g + 1) w (second_back g h) in
+        sym (count-is packing x 2 refl (closing-two x z y (there (part x 0) (3 * g) (omega arith) (first_back g h)))) ∙ omega arith))
 
 -- ---- the bytes of an edition 2 input, from its groups
 module _ (m : List ℕ) (b : Bytes m) where
@@ -276,7 +276,7 @@ module _ (m : List ℕ) (b : Bytes m) where
     abbrev x : Group
     x = group_of m g
 
-    pub group-bytes : (j : ℕ) → j < 14 → get_or (group_bytes x.first x.second x.third) j 0 ≡ get_or m (14 * g + j) 0
+    pub group-bytes : (j : ℕ) → j < 14 → get_or (group_bytes (part x 0) (part x 1) (part x 2)) j 0 ≡ get_or m (14 * g + j) 0
     unfolding group_bytes
     group-bytes zero h =
         let start : 14 * g ≡ 14 * g + 0 = omega arith in

@@ -11,11 +11,12 @@ use lib.ListN.{length}
 use Rattle.lemmas.proofs.Booleans.{by_cases, and_left, and_right, or-by, and-true}
 use Rattle.entries.specs.Legality.{data_legal, entry_legal}
 use Rattle.entries.specs.declared.decoding.Entry.{Entry}
-use Rattle.packing.specs.Groups.{group_of, count_of}
+use Rattle.packing.specs.Groups.{part, group_of, count_of}
 use Rattle.packing.specs.Reports.{Report, report}
 use Rattle.packing.specs.Conversions.{passes, first_failing, placed, well_formed, judged_from}
+use Rattle.std.specs.Prelude.{None}
 use Rattle.packing.specs.Conversions.{last_has_one}
-use Rattle.packing.specs.Passes.{judged_past, word_legal, full_group, leading, one_present, two_present, rest_sound}
+use Rattle.packing.specs.Passes.{judged_past, full_group, leading, present, rest_sound}
 use Rattle.packing.specs.declared.groups.Group.{Group}
 use Rattle.packing.proofs.Searches.{lead-over, lead-stops, lead-goes}
 use Rattle.packing.proofs.Judges.{closing-second, closing-third, count-least, count_most, judged-goes, judged-over, judged-start, none-fails}
@@ -59,19 +60,19 @@ module _ (l : List ℕ) (g : ℕ) (h : full_at l g ≡ true) where
   abbrev x : Group
   x = group_of l g
 
-  abbrev four : (eqb x.zero 0 ≡ true) × (entry_legal x.first ≡ true) × (entry_legal x.second ≡ true) × (entry_legal x.third ≡ true)
-  four = all-four (eqb x.zero 0) (entry_legal x.first) (entry_legal x.second) (entry_legal x.third) h
+  abbrev four : (eqb x.zero 0 ≡ true) × (entry_legal (part x 0) ≡ true) × (entry_legal (part x 1) ≡ true) × (entry_legal (part x 2) ≡ true)
+  four = all-four (eqb x.zero 0) (entry_legal (part x 0)) (entry_legal (part x 1)) (entry_legal (part x 2)) h
 
-  full-passes : 3 ≡ first_failing x
-  full-passes = none-fails x (legal-passes x.first four.1) (legal-passes x.second four.2) (legal-passes x.third four.3)
+  full-passes : None ≡ first_failing x
+  full-passes = none-fails x (legal-passes (part x 0) four.1) (legal-passes (part x 1) four.2) (legal-passes (part x 2) four.3)
 
   full-formed : (place count : ℕ) → place + 2 < count → true ≡ well_formed x place count
   full-formed place count k =
       sym
-      (four-all (eqb x.zero 0) (placed x.first place count) (placed x.second (place + 1) count)
-      (placed x.third (place + 2) count)
-      four.0 (legal-placed x.first place count (omega arith) four.1)
-      (legal-placed x.second (place + 1) count (omega arith) four.2) (legal-placed x.third (place + 2) count k four.3))
+      (four-all (eqb x.zero 0) (placed (part x 0) place count) (placed (part x 1) (place + 1) count)
+      (placed (part x 2) (place + 2) count)
+      four.0 (legal-placed (part x 0) place count (omega arith) four.1)
+      (legal-placed (part x 1) (place + 1) count (omega arith) four.2) (legal-placed (part x 2) (place + 2) count k four.3))
 
 -- the search for them, of `most` groups, from group g on
 module _ (l : List ℕ) (most : ℕ) where
@@ -84,20 +85,17 @@ module _ (l : List ℕ) (most : ℕ) where
   pub full-over : (g : ℕ) → most ≤ g → end_of g ≡ g
   full-over g h = lead-over (full_at l) g (most - g) (omega arith)
 
-  full_at_lem : (g : ℕ) (x : Group) (t b : Bool) → x ≡ group_of l g → t ≡ full_group x → t ≡ b → full_at l g ≡ b
-  full_at_lem g x t b p q r = sym (q ∙ ap full_group p) ∙ r
+  pub full-stops : (g : ℕ) → g < most → full_at l g ≡ false → end_of g ≡ g
+  full-stops g h t = lead-stops (full_at l) g (most - g) (most - (g + 1)) (omega arith) t
 
-  pub full-stops : (g : ℕ) → g < most → (x : Group) (t : Bool) → x ≡ group_of l g → t ≡ full_group x → t ≡ false → end_of g ≡ g
-  full-stops g h x t p q r = lead-stops (full_at l) g (most - g) (most - (g + 1)) (omega arith) (full_at_lem g x t false p q r)
-
-  pub full-goes : (g : ℕ) → g < most → (x : Group) (t : Bool) → x ≡ group_of l g → t ≡ full_group x → t ≡ true → end_of g ≡ end_of (g + 1)
-  full-goes g h x t p q r = lead-goes (full_at l) g (most - g) (most - (g + 1)) (omega arith) (full_at_lem g x t true p q r)
+  pub full-goes : (g : ℕ) → g < most → full_at l g ≡ true → end_of g ≡ end_of (g + 1)
+  full-goes g h t = lead-goes (full_at l) g (most - g) (most - (g + 1)) (omega arith) t
 
 module _ (l : List ℕ) (count : ℕ) (sound : Bool) where
   one-full : (g : ℕ) → g < length l / 14 → 3 * g + 2 < count → full_at l g ≡ true
       → judged_past l count sound g ≡ judged_past l count sound (g + 1)
   one-full g h k f =
-      judged-goes l count sound g h 3 (group_of l g) true refl (full-passes l g f) (omega arith)
+      judged-goes l count sound g h (group_of l g) true refl (full-passes l g f)
       (full-formed l g f (3 * g) count k)
       ∙ ap (λ (t : Bool). judged_from l count t (g + 1) (length l / 14 - (g + 1))) (and-true sound)
 
@@ -126,21 +124,16 @@ closing-passes e h = rw (eq-eqb e.register 31 h)
 closing-placed : (e : Entry) (place count : ℕ) → count ≤ place → eqb e.word 0 ≡ true → placed e place count ≡ true
 closing-placed e place count k h = rw (le-ltb place count k) h
 
-ends : (l : List ℕ) (count : ℕ) (sound : Bool) (g : ℕ) → g + 1 ≡ length l / 14 → sound ≡ true → 3 ≡ first_failing (group_of l g)
+ends : (l : List ℕ) (count : ℕ) (sound : Bool) (g : ℕ) → g + 1 ≡ length l / 14 → sound ≡ true → None ≡ first_failing (group_of l g)
     → true ≡ well_formed (group_of l g) (3 * g) count → judged_past l count sound g ≡ report 0 0 (5 * count)
 ends l count sound g last s p f =
-    judged-goes l count sound g (omega arith) 3 (group_of l g) true refl p (omega arith) f
+    judged-goes l count sound g (omega arith) (group_of l g) true refl p f
     ∙ judged-over l count (sound && true) (g + 1) (omega arith) true (and-true sound ∙ s)
 
-rest-cases : (a b c x y z : Bool) → cond a false (cond b x (cond c y z)) ≡ true
-    → (a ≡ false) × (b ≡ true → x ≡ true) × (b ≡ false → c ≡ true → y ≡ true) × (b ≡ false → c ≡ false → z ≡ true)
-rest-cases true b c x y z e = absurd (false≢true e)
-rest-cases false true c x y z e =
-    (refl, λ p. e, λ p q. absurd (false≢true (sym p)), λ p q. absurd (false≢true (sym p)))
-rest-cases false false true x y z e =
-    (refl, λ p. absurd (false≢true p), λ p q. e, λ p q. absurd (false≢true (sym q)))
-rest-cases false false false x y z e =
-    (refl, λ p. absurd (false≢true p), λ p q. absurd (false≢true q), λ p q. e)
+rest-cases : (a b x y : Bool) → cond a false (cond b x y) ≡ true → (a ≡ false) × (b ≡ true → x ≡ true) × (b ≡ false → y ≡ true)
+rest-cases true b x y e = absurd (false≢true e)
+rest-cases false true x y e = (refl, λ p. e, λ p. absurd (false≢true (sym p)))
+rest-cases false false x y e = (refl, λ p. absurd (false≢true p), λ p. e)
 
 module _ (l : List ℕ) (n from : ℕ) (is : n ≡ count_of l) (any : 0 < length l / 14) (most : from ≤ n / 3) where
   abbrev whole : Bool
@@ -152,66 +145,54 @@ module _ (l : List ℕ) (n from : ℕ) (is : n ≡ count_of l) (any : 0 < length
   over : n / 3 ≤ from → 3 * (length l / 14) ≡ n → judged_past l n whole from ≡ report 0 0 (5 * n)
   over h e = judged-over l n whole from (omega arith) true (lt-ltb (3 * (length l / 14)) (n + 3) (omega arith))
 
-  one_left : n / 3 ≤ from → n % 3 ≡ 1 → one_present last_of ≡ true → judged_past l n whole from ≡ report 0 0 (5 * n)
+  one_left : n / 3 ≤ from → n % 3 ≡ 1 → present last_of 1 ≡ true → judged_past l n whole from ≡ report 0 0 (5 * n)
   one_left h e s =
       let a = count_most l in
       let b = count-least l in
       let g : from ≡ length l / 14 - 1 = omega arith in
       let x = group_of l from in
-      let f = all-four (eqb x.zero 0) (entry_legal x.first) (eqb x.second.word 0) (eqb x.third.word 0)
-      (ap (λ (k : ℕ). one_present (group_of l k)) g ∙ s) in
+      let f = all-four (eqb x.zero 0) (entry_legal (part x 0)) (eqb (part x 1).word 0) (eqb (part x 2).word 0)
+      (ap (λ (k : ℕ). present (group_of l k) 1) g ∙ s) in
       ends l n whole from (omega arith) (lt-ltb (3 * (length l / 14)) (n + 3) (omega arith))
-      (none-fails x (legal-passes x.first f.1) (closing-passes x.second (closing-second l from g any (omega arith)))
-      (closing-passes x.third (closing-third l from g any (omega arith))))
-      (sym (four-all (eqb x.zero 0) (placed x.first (3 * from) n) (placed x.second (3 * from + 1) n)
-      (placed x.third (3 * from + 2) n)
-      f.0 (legal-placed x.first (3 * from) n (omega arith) f.1) (closing-placed x.second (3 * from + 1) n (omega arith) f.2)
-      (closing-placed x.third (3 * from + 2) n (omega arith) f.3)))
+      (none-fails x (legal-passes (part x 0) f.1) (closing-passes (part x 1) (closing-second l from g any (omega arith)))
+      (closing-passes (part x 2) (closing-third l from g any (omega arith))))
+      (sym (four-all (eqb x.zero 0) (placed (part x 0) (3 * from) n) (placed (part x 1) (3 * from + 1) n)
+      (placed (part x 2) (3 * from + 2) n)
+      f.0 (legal-placed (part x 0) (3 * from) n (omega arith) f.1) (closing-placed (part x 1) (3 * from + 1) n (omega arith) f.2)
+      (closing-placed (part x 2) (3 * from + 2) n (omega arith) f.3)))
 
-  two-left : n / 3 ≤ from → n % 3 ≡ 2 → two_present last_of ≡ true → judged_past l n whole from ≡ report 0 0 (5 * n)
+  two-left : n / 3 ≤ from → n % 3 ≡ 2 → present last_of 2 ≡ true → judged_past l n whole from ≡ report 0 0 (5 * n)
   two-left h e s =
       let a = count_most l in
       let b = count-least l in
       let g : from ≡ length l / 14 - 1 = omega arith in
       let x = group_of l from in
-      let f = all-four (eqb x.zero 0) (entry_legal x.first) (entry_legal x.second) (eqb x.third.word 0)
-      (ap (λ (k : ℕ). two_present (group_of l k)) g ∙ s) in
+      let f = all-four (eqb x.zero 0) (entry_legal (part x 0)) (entry_legal (part x 1)) (eqb (part x 2).word 0)
+      (ap (λ (k : ℕ). present (group_of l k) 2) g ∙ s) in
       ends l n whole from (omega arith) (lt-ltb (3 * (length l / 14)) (n + 3) (omega arith))
-      (none-fails x (legal-passes x.first f.1) (legal-passes x.second f.2)
-      (closing-passes x.third (closing-third l from g any (omega arith))))
-      (sym (four-all (eqb x.zero 0) (placed x.first (3 * from) n) (placed x.second (3 * from + 1) n)
-      (placed x.third (3 * from + 2) n)
-      f.0 (legal-placed x.first (3 * from) n (omega arith) f.1) (legal-placed x.second (3 * from + 1) n (omega arith) f.2)
-      (closing-placed x.third (3 * from + 2) n (omega arith) f.3)))
+      (none-fails x (legal-passes (part x 0) f.1) (legal-passes (part x 1) f.2)
+      (closing-passes (part x 2) (closing-third l from g any (omega arith))))
+      (sym (four-all (eqb x.zero 0) (placed (part x 0) (3 * from) n) (placed (part x 1) (3 * from + 1) n)
+      (placed (part x 2) (3 * from + 2) n)
+      f.0 (legal-placed (part x 0) (3 * from) n (omega arith) f.1) (legal-placed (part x 1) (3 * from + 1) n (omega arith) f.2)
+      (closing-placed (part x 2) (3 * from + 2) n (omega arith) f.3)))
 
   pub rest-judged : rest_sound l n from ≡ true → judged_past l n whole from ≡ report 0 0 (5 * n)
   unfolding rest_sound
   rest-judged e =
-      let c = rest-cases (ltb from (n / 3)) (eqb (n % 3) 0) (eqb (n % 3) 1) (eqb (3 * (length l / 14)) n) (one_present last_of)
-      (two_present last_of) e in
+      let c = rest-cases (ltb from (n / 3)) (eqb (n % 3) 0) (eqb (3 * (length l / 14)) n) (present last_of (n % 3)) e in
       let h = ltb-false from (n / 3) c.0 in
       by_cases (eqb (n % 3) 0) (λ t. over h (eqb-true (3 * (length l / 14)) n (c.1 t)))
       (λ t.
-      by_cases (eqb (n % 3) 1) (λ u. one_left h (eqb-true (n % 3) 1 u) (c.2 t u))
+      by_cases (eqb (n % 3) 1)
+      (λ u. let i = eqb-true (n % 3) 1 u in one_left h i (ap (present last_of) (sym i) ∙ c.2 t))
       (λ u.
       let i = eqb-false (n % 3) 0 t in
       let j = eqb-false (n % 3) 1 u in
-      two-left h (omega (arith, i, j)) (c.3 t u)))
+      let k : n % 3 ≡ 2 = omega (arith, i, j) in
+      two-left h k (ap (present last_of) (sym k) ∙ c.2 t)))
 
 -- ---- the tests, as the code makes them
-module _ (x : Group) where
-  pub full-zero : (x.zero ≡ 0 → ⊥) → false ≡ full_group x
-  full-zero h = rw (ne_eqb x.zero 0 h)
-
-  pub full-first : x.zero ≡ 0 → word_legal x.first ≡ false → false ≡ full_group x
-  full-first z a = rw (eq-eqb x.zero 0 z, a)
-
-  pub full-second : x.zero ≡ 0 → word_legal x.first ≡ true → word_legal x.second ≡ false → false ≡ full_group x
-  full-second z a b = rw (eq-eqb x.zero 0 z, a, b)
-
-  pub full-third : x.zero ≡ 0 → word_legal x.first ≡ true → word_legal x.second ≡ true → word_legal x.third ≡ full_group x
-  full-third z a b = rw (eq-eqb x.zero 0 z, a, b)
-
 module _ (l : List ℕ) (n from : ℕ) where
   pub rest-early : from < n / 3 → false ≡ rest_sound l n from
   unfolding rest_sound
@@ -222,16 +203,9 @@ module _ (l : List ℕ) (n from : ℕ) where
   rest-none h e groups q =
       rw (le-ltb from (n / 3) h, eq-eqb (n % 3) 0 e) (ap (λ (g : ℕ). eqb (3 * g) n) q)
 
-  module _ (groups : ℕ) (q : groups ≡ length l / 14) (x : Group) (is : x ≡ group_of l (groups - 1)) (t : Bool) where
-    last-is : x ≡ group_of l (length l / 14 - 1)
-    last-is = is ∙ ap (λ (g : ℕ). group_of l (g - 1)) q
-
-    pub rest-one : n / 3 ≤ from → n % 3 ≡ 1 → t ≡ one_present x → t ≡ rest_sound l n from
-    unfolding rest_sound
-    rest-one h e p =
-        rw (le-ltb from (n / 3) h, ne_eqb (n % 3) 0 (λ z. omega arith), eq-eqb (n % 3) 1 e) (p ∙ ap (λ (y : Group). one_present y) last-is)
-
-    pub rest-two : n / 3 ≤ from → (n % 3 ≡ 0 → ⊥) → (n % 3 ≡ 1 → ⊥) → t ≡ two_present x → t ≡ rest_sound l n from
-    unfolding rest_sound
-    rest-two h a b p =
-        rw (le-ltb from (n / 3) h, ne_eqb (n % 3) 0 a, ne_eqb (n % 3) 1 b) (p ∙ ap (λ (y : Group). two_present y) last-is)
+  pub rest-some : n / 3 ≤ from → (n % 3 ≡ 0 → ⊥) → (groups : ℕ) → groups ≡ length l / 14 → (x : Group) → x ≡ group_of l (groups - 1)
+      → (t : Bool) → t ≡ present x (n % 3) → t ≡ rest_sound l n from
+  unfolding rest_sound
+  rest-some h a groups q x is t p =
+      rw (le-ltb from (n / 3) h, ne_eqb (n % 3) 0 a)
+      (p ∙ ap (λ (y : Group). present y (n % 3)) (is ∙ ap (λ (g : ℕ). group_of l (g - 1)) q))

@@ -11,12 +11,11 @@ use lib.ListN.{length, set}
 use lib.Seq.{sets}
 use Rattle.entries.specs.Layout.{entry_of, decoded_of}
 use Rattle.entries.specs.declared.decoding.Entry.{Entry}
-use Rattle.entries.specs.declared.decoding.Decoded.{Decoded}
-use Rattle.entries.specs.declared.decoding.Decoded.TheVariants.{Whole, Nothing}
+use Rattle.std.specs.Prelude.{Some, None}
 use Rattle.entries.proofs.Decodes.{decoded-whole}
 use Rattle.packing.specs.Editions.{strung, word_bytes, head_bytes, head_of, entry_bytes, group_bytes, missing, whole_or, present_of}
 use Rattle.packing.specs.Editions.{or_missing, packed_group, packed_of, groups_for}
-use Rattle.packing.specs.Groups.{group_of, slot_of, position_of}
+use Rattle.packing.specs.Groups.{part, group_of, slot_of, position_of}
 use Rattle.packing.specs.declared.groups.Group.{Group}
 use Rattle.packing.proofs.Runs.{sets_then, strung-more, strung-agree}
 
@@ -35,10 +34,6 @@ group-put l h p q r at head a b c e u v w x =
     (u ∙ ap (λ (k : ℕ). sets l at (head_bytes k)) e)
     (sets_then (word_bytes a.word) (word_bytes b.word ++ word_bytes c.word) h p r (at + 2) (at + 6) (omega arith) v
     (sets_then (word_bytes b.word) (word_bytes c.word) p q r (at + 6) (at + 10) (omega arith) w x))
-
--- what is decoded at a place decides
-pub present-by : (l : List ℕ) (k : ℕ) (d e : Decoded) → d ≡ decoded_of l k → d ≡ e → whole_or e ≡ present_of l k
-present-by l k d e p q = ap whole_or (sym q ∙ p)
 
 pub whole-present : (l : List ℕ) (k : ℕ) (e : Entry) → k < length l / 5 → e ≡ entry_of l k → e ≡ present_of l k
 whole-present l k e h p = p ∙ sym (ap whole_or (decoded-whole l k h))
@@ -69,7 +64,7 @@ pub present-is : (l : List ℕ) (k : ℕ) → present_of l k ≡ or_missing (ent
 unfolding decoded_of
 present-is l k = whole (ltb k (length l / 5))
   where
-    whole : (t : Bool) → whole_or (cond t (Whole (entry_of l k)) Nothing) ≡ cond t (entry_of l k) missing
+    whole : (t : Bool) → whole_or (cond t (Some (entry_of l k)) None) ≡ cond t (entry_of l k) missing
     whole true = refl
     whole false = refl
 
@@ -81,17 +76,17 @@ packed-is l =
 
 -- ---- positions of edition 2, three a group
 module _ (l : List ℕ) (g : ℕ) where
-  pub position_first : position_of l (3 * g) ≡ (group_of l g).first
+  pub position_first : position_of l (3 * g) ≡ (part (group_of l g) 0)
   unfolding slot_of
   position_first =
       let a : 3 * g / 3 ≡ g = omega arith in let b : 3 * g % 3 ≡ 0 = omega arith in rw (a, b)
 
-  pub position-second : position_of l (3 * g + 1) ≡ (group_of l g).second
+  pub position-second : position_of l (3 * g + 1) ≡ (part (group_of l g) 1)
   unfolding slot_of
   position-second =
       let a : (3 * g + 1) / 3 ≡ g = omega arith in let b : (3 * g + 1) % 3 ≡ 1 = omega arith in rw (a, b)
 
-  pub position-third : position_of l (3 * g + 2) ≡ (group_of l g).third
+  pub position-third : position_of l (3 * g + 2) ≡ (part (group_of l g) 2)
   unfolding slot_of
   position-third =
       let a : (3 * g + 2) / 3 ≡ g = omega arith in let b : (3 * g + 2) % 3 ≡ 2 = omega arith in rw (a, b)
@@ -108,33 +103,29 @@ module _ (list l : List ℕ) where
       strung-more 5 bytes (λ i. entry_length (position_of list i)) l m n at k p r (s ∙ ap (λ (x : Entry). sets m at (entry_bytes x)) (sym q))
 
   pub one-put : (g : ℕ) (x : Group) (m n : List ℕ) → x ≡ group_of list g → m ≡ sets l 0 (strung bytes (3 * g))
-      → n ≡ sets m (15 * g) (entry_bytes x.first)
+      → n ≡ sets m (15 * g) (entry_bytes (part x 0))
       → n ≡ sets l 0 (strung bytes (3 * g + 1))
   one-put g x m n e p q =
-      one_more m n (15 * g) (3 * g) x.first (omega arith) (position_first list g ∙ ap (λ (y : Group). y.first) (sym e)) p q
+      one_more m n (15 * g) (3 * g) (part x 0) (omega arith) (position_first list g ∙ ap (λ (y : Group). part y 0) (sym e)) p q
 
   pub two-put : (g : ℕ) (x : Group) (m n o : List ℕ) → x ≡ group_of list g → m ≡ sets l 0 (strung bytes (3 * g))
-      → n ≡ sets m (15 * g) (entry_bytes x.first)
-      → o ≡ sets n (15 * g + 5) (entry_bytes x.second) → o ≡ sets l 0 (strung bytes (3 * g + 2))
+      → n ≡ sets m (15 * g) (entry_bytes (part x 0))
+      → o ≡ sets n (15 * g + 5) (entry_bytes (part x 1)) → o ≡ sets l 0 (strung bytes (3 * g + 2))
   two-put g x m n o e p q r =
       let k : 3 * g + 1 + 1 ≡ 3 * g + 2 = omega arith in
-      one_more n o (15 * g + 5) (3 * g + 1) x.second (omega arith) (position-second list g ∙ ap (λ (y : Group). y.second) (sym e))
+      one_more n o (15 * g + 5) (3 * g + 1) (part x 1) (omega arith) (position-second list g ∙ ap (λ (y : Group). part y 1) (sym e))
       (one-put g x m n e p q) r
       ∙ ap (λ (i : ℕ). sets l 0 (strung bytes i)) k
 
   pub three-put : (g : ℕ) (x : Group) (m n o t : List ℕ) → x ≡ group_of list g → m ≡ sets l 0 (strung bytes (3 * g))
-      → n ≡ sets m (15 * g) (entry_bytes x.first)
-      → o ≡ sets n (15 * g + 5) (entry_bytes x.second) → t ≡ sets o (15 * g + 10) (entry_bytes x.third)
+      → n ≡ sets m (15 * g) (entry_bytes (part x 0))
+      → o ≡ sets n (15 * g + 5) (entry_bytes (part x 1)) → t ≡ sets o (15 * g + 10) (entry_bytes (part x 2))
       → t ≡ sets l 0 (strung bytes (3 * (g + 1)))
   three-put g x m n o t e p q r s =
       let k : 3 * g + 2 + 1 ≡ 3 * (g + 1) = omega arith in
-      one_more o t (15 * g + 10) (3 * g + 2) x.third (omega arith) (position-third list g ∙ ap (λ (y : Group). y.third) (sym e))
+      one_more o t (15 * g + 10) (3 * g + 2) (part x 2) (omega arith) (position-third list g ∙ ap (λ (y : Group). part y 2) (sym e))
       (two-put g x m n o e p q r) s
       ∙ ap (λ (i : ℕ). sets l 0 (strung bytes i)) k
 
   pub all-put : (m : List ℕ) (k n : ℕ) → k ≡ n → m ≡ sets l 0 (strung bytes k) → m ≡ sets l 0 (strung bytes n)
   all-put m k n e p = p ∙ ap (λ (i : ℕ). sets l 0 (strung bytes i)) e
-
-pub groups-all : (list l m : List ℕ) (k n : ℕ) → k ≡ n → m ≡ sets l 0 (strung (packed_group list) k)
-    → m ≡ sets l 0 (strung (packed_group list) n)
-groups-all list l m k n e p = p ∙ ap (λ (i : ℕ). sets l 0 (strung (packed_group list) i)) e

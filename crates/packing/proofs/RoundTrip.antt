@@ -14,9 +14,10 @@ use Rattle.entries.specs.Layout.{entry_of}
 use Rattle.entries.specs.Legality.{entry_legal}
 use Rattle.entries.specs.declared.decoding.Entry.{Entry}
 use Rattle.packing.specs.Editions.{entry_bytes, group_bytes, missing, or_missing, groups_for, packed_of, list_of}
-use Rattle.packing.specs.Groups.{word_at, head_at, group_of, position_of, count_of}
+use Rattle.packing.specs.Groups.{part, word_at, head_at, group_of, position_of, count_of}
 use Rattle.packing.specs.Reports.{report}
-use Rattle.packing.specs.Conversions.{nowhere, holds, judged_by, pack_report, passes, placed, well_formed, judgement, last_has_one}
+use Rattle.std.specs.Prelude.{None}
+use Rattle.packing.specs.Conversions.{holds, judged_by, pack_report, passes, placed, well_formed, judgement, last_has_one}
 use Rattle.packing.specs.Conversions.{unpack_report}
 use Rattle.packing.specs.Conversions.{converted_to, pack_of, unpack_of}
 use Rattle.packing.specs.RoundTrip.{Bytes, LegalList, done, ComesBack, OneForm, Sizes}
@@ -37,7 +38,7 @@ module _ (l : List ℕ) (n : ℕ) (whole : length l ≡ 5 * n) (some : 0 < n) (f
   count-is-n : length l / 5 ≡ n
   count-is-n = omega arith
 
-  none : illegal_of l ≡ nowhere
+  none : illegal_of l ≡ None
   none = none_found (λ k. entry_legal (entry_of l k)) 0 (length l / 5) (λ q a b. legal q (omega arith))
 
   packs-to : (room : ℕ) → groups_for n ≤ room / 14 → pack_report l room ≡ report 0 0 (14 * groups_for n)
@@ -58,7 +59,7 @@ module _ (l : List ℕ) (n : ℕ) (whole : length l ≡ 5 * n) (some : 0 < n) (f
 
 -- ---- an input that passes every test unpacks
 pub unpacks-to : (m : List ℕ) (room : ℕ) → length m % 14 ≡ 0 → count_of m ≤ room / 5 → (length m ≡ 0 → ⊥) → count_of m ≤ 4096
-    → failing_of m ≡ nowhere → sound m ≡ true
+    → failing_of m ≡ None → sound m ≡ true
     → unpack_report m room ≡ report 0 0 (5 * count_of m)
 unpacks-to m room whole fits some few legal formed =
     let size : unpack_size m room (length m / 14) refl (count_of m) refl ≡ false =
@@ -117,10 +118,10 @@ module _ (l : List ℕ) (n : ℕ) (ok : LegalList l n) where
   forming : (g : ℕ) → g < groups_for n → well_formed (group_of m g) (3 * g) (count_of m) ≡ true
   forming g h =
       let x = group_of m g in
-      four-all (eqb x.zero 0) (placed x.first (3 * g) (count_of m)) (placed x.second (3 * g + 1) (count_of m))
-      (placed x.third (3 * g + 2) (count_of m))
-      (eq-eqb x.zero 0 (zero-back e n plain g h)) (placing-at x.first (3 * g) (first_back e n plain g h))
-      (placing-at x.second (3 * g + 1) (second_back e n plain g h)) (placing-at x.third (3 * g + 2) (third_back e n plain g h))
+      four-all (eqb x.zero 0) (placed (part x 0) (3 * g) (count_of m)) (placed (part x 1) (3 * g + 1) (count_of m))
+      (placed (part x 2) (3 * g + 2) (count_of m))
+      (eq-eqb x.zero 0 (zero-back e n plain g h)) (placing-at (part x 0) (3 * g) (first_back e n plain g h))
+      (placing-at (part x 1) (3 * g + 1) (second_back e n plain g h)) (placing-at (part x 2) (3 * g + 2) (third_back e n plain g h))
 
   all_sound : sound m ≡ true
   all_sound =
@@ -131,7 +132,7 @@ module _ (l : List ℕ) (n : ℕ) (ok : LegalList l n) where
       (lt-ltb (3 * (length m / 14)) (count_of m + 3) (omega arith))
       (all_hold (λ k. well_formed (group_of m k) (3 * k) (count_of m)) 0 (length m / 14) (λ q a b. forming q (omega arith)))
 
-  all-legal : failing_of m ≡ nowhere
+  all-legal : failing_of m ≡ None
   all-legal =
       let s = size in
       none_found (λ p. passes (position_of m p)) 0 (3 * (length m / 14))
@@ -217,11 +218,11 @@ module _ (m : List ℕ) (b : Bytes m) (room written : ℕ) (u : Unpacks m room w
       (omega arith)
 
   abbrev parts : (g : ℕ) → g < groups
-      → (eqb (group_of m g).zero 0 ≡ true) × (placed (group_of m g).first (3 * g) n ≡ true)
-      × (placed (group_of m g).second (3 * g + 1) n ≡ true) × (placed (group_of m g).third (3 * g + 2) n ≡ true)
+      → (eqb (group_of m g).zero 0 ≡ true) × (placed (part (group_of m g) 0) (3 * g) n ≡ true)
+      × (placed (part (group_of m g) 1) (3 * g + 1) n ≡ true) × (placed (part (group_of m g) 2) (3 * g + 2) n ≡ true)
   parts g h =
-      all-four (eqb (group_of m g).zero 0) (placed (group_of m g).first (3 * g) n) (placed (group_of m g).second (3 * g + 1) n)
-      (placed (group_of m g).third (3 * g + 2) n) (formed-at g h)
+      all-four (eqb (group_of m g).zero 0) (placed (part (group_of m g) 0) (3 * g) n) (placed (part (group_of m g) 1) (3 * g + 1) n)
+      (placed (part (group_of m g) 2) (3 * g + 2) n) (formed-at g h)
 
   zero_bit : (g : ℕ) → g < groups → (group_of m g).zero ≡ 0
   zero_bit g h = eqb-true (group_of m g).zero 0 (parts g h).0
@@ -288,8 +289,8 @@ module _ (m : List ℕ) (b : Bytes m) (room written : ℕ) (u : Unpacks m room w
       let y = group_of m g in
       group-byte (position_of m) n (λ k l. position-plain m b k) g j (omega arith) i
       ∙ ap (λ (s : Entry). get_or (group_bytes s (o (3 * g + 1)) (o (3 * g + 2))) j 0) (whole-or (3 * g) (omega arith) ∙ position_first m g)
-      ∙ ap (λ (s : Entry). get_or (group_bytes y.first s (o (3 * g + 2))) j 0) (whole-or (3 * g + 1) (omega arith) ∙ position-second m g)
-      ∙ ap (λ (s : Entry). get_or (group_bytes y.first y.second s) j 0) (whole-or (3 * g + 2) (omega arith) ∙ position-third m g)
+      ∙ ap (λ (s : Entry). get_or (group_bytes (part y 0) s (o (3 * g + 2))) j 0) (whole-or (3 * g + 1) (omega arith) ∙ position-second m g)
+      ∙ ap (λ (s : Entry). get_or (group_bytes (part y 0) (part y 1) s) j 0) (whole-or (3 * g + 2) (omega arith) ∙ position-third m g)
       ∙ group-bytes m b g (zero_bit g h) j i
 
   packed-again : packed_of (position_of m) n ≡ m

@@ -8,21 +8,27 @@ use native.Mathlib.Omega.{arith}
 use borrow.Author.Tests.{eqb-true, eqb-false}
 use lib.Dec.{eqb}
 use Rattle.lemmas.proofs.Booleans.{by_cases, and_left, and_right, and_both}
-use Rattle.packing.specs.Conversions.{Found, fails_at, nowhere, first_not, holds}
+use Rattle.std.specs.Prelude.{Option, Some, None, MatchOption}
+use Rattle.packing.specs.Conversions.{first_not, holds}
 use Rattle.packing.specs.Passes.{leading}
 
--- ---- one place at a time
-pub first-none : (f : ℕ → Bool) (p n : ℕ) → n ≡ 0 → first_not f p n ≡ nowhere
+-- a search that ends at the first place where the test fails, or past places where it holds
+pub search-is : (f : ℕ → Bool) (r : Option ℕ) (p end n : ℕ) → end ≡ p + n
+    → MatchOption r ((i : ℕ) → p ≤ i → i < end → f i ≡ true)
+    (λ k. (p ≤ k) × (k < end) × (f k ≡ false) × ((i : ℕ) → p ≤ i → i < k → f i ≡ true))
+    → r ≡ first_not f p n
 unfolding first_not
-first-none f p n e = rw e
-
-pub first-here : (f : ℕ → Bool) (p n m : ℕ) → n ≡ m + 1 → f p ≡ false → first_not f p n ≡ fails_at p
-unfolding first_not
-first-here f p n m h e = rw (h, add-one m, e)
-
-pub first_next : (f : ℕ → Bool) (p n m : ℕ) → n ≡ m + 1 → f p ≡ true → first_not f p n ≡ first_not f (p + 1) m
-unfolding first_not
-first_next f p n m h e = rw (h, add-one m, add-one p, e)
+search-is f None p end zero e h = refl
+search-is f None p end (suc n) e h =
+    rw (h p (omega arith) (omega arith)) (search-is f None (suc p) end n (omega arith) (λ i a b. h i (omega arith) b))
+search-is f (Some k) p end zero e h = absurd (omega arith)
+search-is f (Some k) p end (suc n) e h =
+    by_cases (eqb p k)
+    (λ t. let q = eqb-true p k t in rw (q, h.2))
+    (λ t.
+    let d = eqb-false p k t in
+    rw (h.3 p (omega arith) (omega (arith, d)))
+    (search-is f (Some k) (suc p) end n (omega arith) (omega (arith, d), h.1, h.2, λ i a b. h.3 i (omega arith) b)))
 
 -- ---- where a search ends
 pub lead-over : (f : ℕ → Bool) (p n : ℕ) → n ≡ 0 → leading f p n ≡ p
@@ -44,22 +50,18 @@ lead-most f p (suc n) =
     by_cases (f p) (λ t. rw t (omega (arith, lead-most f (suc p) n))) (λ t. rw t (omega arith))
 
 -- ---- all of them
-pub none_found : (f : ℕ → Bool) (p n : ℕ) → ((q : ℕ) → p ≤ q → q < p + n → f q ≡ true) → first_not f p n ≡ nowhere
+pub none_found : (f : ℕ → Bool) (p n : ℕ) → ((q : ℕ) → p ≤ q → q < p + n → f q ≡ true) → first_not f p n ≡ None
 unfolding first_not
 none_found f p zero h = refl
 none_found f p (suc n) h = rw (h p (omega arith) (omega arith)) (none_found f (suc p) n (λ q a b. h q (omega arith) (omega arith)))
 
-abbrev is-place : Found → ℕ
-is-place (fails_at p) = 1
-is-place nowhere = 0
-
-stopped : (f : ℕ → Bool) (p n : ℕ) (t : Bool) → f p ≡ t → first_not f p (suc n) ≡ nowhere → (f p ≡ true) × (first_not f (suc p) n ≡ nowhere)
+stopped : (f : ℕ → Bool) (p n : ℕ) (t : Bool) → f p ≡ t → first_not f p (suc n) ≡ None → (f p ≡ true) × (first_not f (suc p) n ≡ None)
 unfolding first_not
 stopped f p n true e s = (e, rw e at s)
 stopped f p n false e s =
-    let k : fails_at p ≡ nowhere = rw e at s in let z : ◌≡◌ {A = ℕ} 1 0 = ap is-place k in absurd (omega arith)
+    let k : Some p ≡ None = rw e at s in cc
 
-pub all_pass : (f : ℕ → Bool) (p n : ℕ) → first_not f p n ≡ nowhere → (q : ℕ) → p ≤ q → q < p + n → f q ≡ true
+pub all_pass : (f : ℕ → Bool) (p n : ℕ) → first_not f p n ≡ None → (q : ℕ) → p ≤ q → q < p + n → f q ≡ true
 all_pass f p zero s q a b = absurd (omega arith)
 all_pass f p (suc n) s q a b =
     let k = stopped f p n (f p) refl s in

@@ -1,22 +1,18 @@
 -- What packing and unpacking answer, and the lent output after them (02, R-4): "Refusals, lowest number first".
-use Rattle.std.specs.Prelude.{Bool, true, not, cond, ◌&&◌, ◌||◌, List, ◌++◌, ℕ, zero, suc, ◌+◌, ◌*◌, ◌/◌, ◌%◌, eqb, ltb, length, drop}
+use Rattle.std.specs.Prelude.{Bool, true, not, cond, Option, Some, None, Result, ◌&&◌, ◌||◌, List, ◌++◌, ℕ, zero, suc, ◌+◌, ◌*◌, ◌/◌, ◌%◌, eqb, ltb, length, drop}
 use Rattle.entries.specs.Layout.{entry_of}
 use Rattle.entries.specs.Legality.{entry_legal}
 use Rattle.entries.specs.declared.decoding.Entry.{Entry}
 use Rattle.packing.specs.Editions.{list_of, groups_for, packed_of}
-use Rattle.packing.specs.Groups.{group_of, position_of, count_of}
+use Rattle.packing.specs.Groups.{part, group_of, position_of, count_of}
 use Rattle.packing.specs.Reports.{Report, report, report_of}
 use Rattle.packing.specs.declared.groups.Group.{Group}
-use Rattle.packing.specs.declared.statuses.FileStatus.{FileStatus}
+use Rattle.packing.specs.declared.outcomes.FileRefusal.{FileRefusal}
 
 -- The first place, of n from p on, at which a test fails; and whether it holds at them all.
-pub data Found : Type 0 where
-  fails_at : ℕ → Found
-  nowhere : Found
-
-unfoldable pub first_not : (ℕ → Bool) → ℕ → ℕ → Found
-first_not f p zero = nowhere
-first_not f p (suc n) = cond (f p) (first_not f (suc p) n) (fails_at p)
+unfoldable pub first_not : (ℕ → Bool) → ℕ → ℕ → Option ℕ
+first_not f p zero = None
+first_not f p (suc n) = cond (f p) (first_not f (suc p) n) (Some p)
 
 unfoldable pub holds : (ℕ → Bool) → ℕ → ℕ → Bool
 holds f p zero = true
@@ -28,9 +24,9 @@ abbrev pub refused_or : Bool → Bool → Bool → Report → Report
 refused_or size none many judged = cond size (report 2 0 0) (cond none (report 3 0 0) (cond many (report 4 0 0) judged))
 
 -- ---- edition 1 to edition 2: "6 for an illegal entry"
-abbrev pub judged_by : ℕ → Found → Report
-judged_by count (fails_at place) = report 6 place 0
-judged_by count nowhere = report 0 0 (14 * groups_for count)
+abbrev pub judged_by : ℕ → Option ℕ → Report
+judged_by count (Some place) = report 6 place 0
+judged_by count None = report 0 0 (14 * groups_for count)
 
 abbrev pub legality_of : List ℕ → Report
 legality_of l = judged_by (length l / 5) (first_not (λ k. entry_legal (entry_of l k)) 0 (length l / 5))
@@ -44,9 +40,9 @@ pack_report l room =
 abbrev pub passes : Entry → Bool
 passes e = eqb e.register 31 || entry_legal e
 
--- The first entry of a group that does not pass, 3 for none.
-unfoldable pub first_failing : Group → ℕ
-first_failing x = cond (passes x.first) (cond (passes x.second) (cond (passes x.third) 3 2) 1) 0
+-- The first entry of a group that does not pass.
+unfoldable pub first_failing : Group → Option ℕ
+first_failing x = cond (passes (part x 0)) (cond (passes (part x 1)) (cond (passes (part x 2)) None (Some 2)) (Some 1)) (Some 0)
 
 -- "10 for a wrong zero bit, a misplaced 31 or its data not zero": an entry before the count is no 31; those past it are, and
 -- have no data.
@@ -55,12 +51,12 @@ placed e place count = cond (ltb place count) (not (eqb e.register 31)) (eqb e.w
 
 abbrev pub well_formed : Group → ℕ → ℕ → Bool
 well_formed x place count =
-    eqb x.zero 0 && placed x.first place count && placed x.second (place + 1) count && placed x.third (place + 2) count
+    eqb x.zero 0 && placed (part x 0) place count && placed (part x 1) (place + 1) count && placed (part x 2) (place + 2) count
 
 -- "lowest number first": 6 anywhere before 10 anywhere.
-abbrev pub judgement : ℕ → Bool → Found → Report
-judgement count sound (fails_at place) = report 6 place 0
-judgement count sound nowhere = cond sound (report 0 0 (5 * count)) (report 10 0 0)
+abbrev pub judgement : ℕ → Bool → Option ℕ → Report
+judgement count sound (Some place) = report 6 place 0
+judgement count sound None = cond sound (report 0 0 (5 * count)) (report 10 0 0)
 
 -- So many groups from group g on, after groups that were sound or not.
 abbrev pub judged_from : List ℕ → ℕ → Bool → ℕ → ℕ → Report
@@ -87,7 +83,7 @@ pub record Converted : Type 0 where
   pub report : Report
   pub output : List ℕ
 
-abbrev pub converted : FileStatus → List ℕ → Converted
+abbrev pub converted : Result ℕ FileRefusal → List ℕ → Converted
 converted status output = record { report = report_of status; output = output }
 
 abbrev pub output_by : Report → List ℕ → List ℕ → List ℕ

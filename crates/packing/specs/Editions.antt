@@ -1,9 +1,7 @@
 -- The bytes of a list in either edition (01, Entry layout; 02, R-4). A list is its entries, by place, and their number.
-use Rattle.std.specs.Prelude.{cond, List, [], ◌∷◌, ◌++◌, ℕ, zero, suc, ◌+◌, ◌*◌, ◌/◌, ◌%◌, ltb}
+use Rattle.std.specs.Prelude.{cond, Option, Some, None, List, [], ◌∷◌, ◌++◌, ℕ, zero, suc, ◌+◌, ◌*◌, ◌/◌, ◌%◌, ltb}
 use Rattle.entries.specs.Layout.{decoded_of}
 use Rattle.entries.specs.declared.decoding.Entry.{Entry}
-use Rattle.entries.specs.declared.decoding.Decoded.{Decoded}
-use Rattle.entries.specs.declared.decoding.Decoded.TheVariants.{Whole, Nothing}
 
 -- f 0, f 1, .. f (n - 1), one after the other.
 unfoldable pub strung : (ℕ → List ℕ) → ℕ → List ℕ
@@ -50,9 +48,9 @@ packed_of e n =
     strung (λ g. group_bytes (or_missing e n (3 * g)) (or_missing e n (3 * g + 1)) (or_missing e n (3 * g + 2))) (groups_for n)
 
 -- Group g of an edition 1 list in memory, with what stands for a missing entry past its end.
-abbrev pub whole_or : Decoded → Entry
-whole_or (Whole e) = e
-whole_or Nothing = missing
+abbrev pub whole_or : Option Entry → Entry
+whole_or (Some e) = e
+whole_or None = missing
 
 abbrev pub present_of : List ℕ → ℕ → Entry
 present_of l k = whole_or (decoded_of l k)

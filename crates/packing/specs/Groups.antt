@@ -1,5 +1,5 @@
 -- Edition 2 read (02, R-4): its groups, the entry at a position, three a group, and the number of entries.
-use Rattle.std.specs.Prelude.{cond, List, ℕ, zero, suc, ◌+◌, ◌-◌, ◌*◌, ◌/◌, ◌%◌, eqb, length, get_or}
+use Rattle.std.specs.Prelude.{cond, List, [], ◌∷◌, ℕ, zero, suc, ◌+◌, ◌-◌, ◌*◌, ◌/◌, ◌%◌, eqb, length, get_or}
 use Rattle.entries.specs.Layout.{joined}
 use Rattle.entries.specs.declared.decoding.Entry.{Entry}
 use Rattle.packing.specs.declared.groups.Group.{Group}
@@ -16,15 +16,21 @@ abbrev pub group_of : List ℕ → ℕ → Group
 group_of l g =
     record {
       zero = head_at l g / 32768;
-      first = record { register = head_at l g / 1024 % 32; spare = 0; word = word_at l (14 * g + 2) };
-      second = record { register = head_at l g / 32 % 32; spare = 0; word = word_at l (14 * g + 6) };
-      third = record { register = head_at l g % 32; spare = 0; word = word_at l (14 * g + 10) };
+      entries =
+          record { register = head_at l g / 1024 % 32; spare = 0; word = word_at l (14 * g + 2) }
+          ∷ record { register = head_at l g / 32 % 32; spare = 0; word = word_at l (14 * g + 6) }
+          ∷ record { register = head_at l g % 32; spare = 0; word = word_at l (14 * g + 10) }
+          ∷ [];
     }
 
+-- Its entries, from 0 on.
+abbrev pub part : Group → ℕ → Entry
+part x k = get_or x.entries k (record { register = 0; spare = 0; word = 0 })
+
 unfoldable pub slot_of : Group → ℕ → Entry
-slot_of x zero = x.first
-slot_of x (suc zero) = x.second
-slot_of x (suc (suc k)) = x.third
+slot_of x zero = (part x 0)
+slot_of x (suc zero) = (part x 1)
+slot_of x (suc (suc k)) = (part x 2)
 
 -- (02, R-4) "a place counts three a group"
 abbrev pub position_of : List ℕ → ℕ → Entry
@@ -33,7 +39,7 @@ position_of l p = slot_of (group_of l (p / 3)) (p % 3)
 -- The 31s that end a group, whatever their data.
 unfoldable pub closing_of : Group → ℕ
 closing_of x =
-    cond (eqb x.third.register 31) (cond (eqb x.second.register 31) (cond (eqb x.first.register 31) 3 2) 1) 0
+    cond (eqb (part x 2).register 31) (cond (eqb (part x 1).register 31) (cond (eqb (part x 0).register 31) 3 2) 1) 0
 
 -- (02, R-4) "An edition 2 input has three entries a group, less the 31s at the end of its last group."
 unfoldable pub count_of : List ℕ → ℕ

@@ -3,7 +3,7 @@
 use Rattle.std.specs.Prelude.{Bool, false, cond, ◌&&◌, List, ℕ, zero, suc, ◌-◌, ◌*◌, ◌/◌, ◌%◌, eqb, ltb, length}
 use Rattle.entries.specs.Legality.{data_legal, entry_legal}
 use Rattle.entries.specs.declared.decoding.Entry.{Entry}
-use Rattle.packing.specs.Groups.{group_of}
+use Rattle.packing.specs.Groups.{part, group_of}
 use Rattle.packing.specs.Reports.{Report}
 use Rattle.packing.specs.Conversions.{judged_from}
 use Rattle.packing.specs.declared.groups.Group.{Group}
@@ -18,23 +18,21 @@ abbrev pub word_legal : Entry → Bool
 word_legal e = data_legal e.register e.word
 
 abbrev pub full_group : Group → Bool
-full_group x = eqb x.zero 0 && word_legal x.first && word_legal x.second && word_legal x.third
+full_group x = eqb x.zero 0 && word_legal (part x 0) && word_legal (part x 1) && word_legal (part x 2)
 
 -- The first place, of n from p on, at which a test fails, or the one past them.
 unfoldable pub leading : (ℕ → Bool) → ℕ → ℕ → ℕ
 leading f p zero = p
 leading f p (suc n) = cond (f p) (leading f (suc p) n) p
 
--- The last group with one or two entries: the others are 31s by the count, and have no data.
-abbrev pub one_present : Group → Bool
-one_present x = eqb x.zero 0 && entry_legal x.first && eqb x.second.word 0 && eqb x.third.word 0
-
-abbrev pub two_present : Group → Bool
-two_present x = eqb x.zero 0 && entry_legal x.first && entry_legal x.second && eqb x.third.word 0
+-- The last group with one entry or two: the others are 31s by the count, and have no data.
+abbrev pub present : Group → ℕ → Bool
+present x n =
+    eqb x.zero 0 && entry_legal (part x 0) && cond (eqb n 1) (eqb (part x 1).word 0) (entry_legal (part x 1)) && eqb (part x 2).word 0
 
 -- After `from` full groups nothing is left but the entries of such a group.
 unfoldable pub rest_sound : List ℕ → ℕ → ℕ → Bool
 rest_sound l count from =
     let last = group_of l (length l / 14 - 1) in
     cond (ltb from (count / 3)) false
-    (cond (eqb (count % 3) 0) (eqb (3 * (length l / 14)) count) (cond (eqb (count % 3) 1) (one_present last) (two_present last)))
+    (cond (eqb (count % 3) 0) (eqb (3 * (length l / 14)) count) (present last (count % 3)))

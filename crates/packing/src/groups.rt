@@ -2,22 +2,13 @@
 ghost use Rattle.std.specs.Prelude.{◌≡◌, ◌+◌, ◌*◌, ◌/◌, ◌<◌, ◌≤◌, length};
 ghost use Rattle.packing.specs.Groups.{word_at, group_of, closing_of, count_of};
 
-use entries::{Entry, join};
+use entries::Entry;
 
 // The zero bit, and three entries.
 #[derive(Clone, Copy)]
 pub(crate) struct Group {
     pub zero: u32,
-    pub first: Entry,
-    pub second: Entry,
-    pub third: Entry,
-}
-
-// Two bytes as one number, most significant first.
-fn pair(a: u8, b: u8) -> u32
-    ensures { result ≡ a * 256 + b }
-{
-    (a as u32) * 256 + (b as u32)
+    pub entries: [Entry; 3],
 }
 
 // The four bytes from a place on, as one number.
@@ -25,7 +16,18 @@ fn word_at(list: &[u8], at: usize) -> u32
     requires { at + 4 ≤ length list.now }
     ensures { result ≡ word_at list.now at }
 {
-    join(list[at], list[at + 1], list[at + 2], list[at + 3])
+    u32::from_be_bytes([list[at], list[at + 1], list[at + 2], list[at + 3]])
+}
+
+// An entry with no spare bits.
+fn entry(register: u32, word: u32) -> Entry
+    ensures { result ≡ record { register = register; spare = 0; word = word } }
+{
+    Entry {
+        register,
+        spare: 0,
+        word,
+    }
 }
 
 // Group g.
@@ -34,27 +36,13 @@ pub(crate) fn group_at(list: &[u8], g: usize) -> Group
     ensures { result ≡ group_of list.now g }
 {
     let at = 14 * g;
-    let head = pair(list[at], list[at + 1]);
-    let a = word_at(list, at + 2);
-    let b = word_at(list, at + 6);
-    let c = word_at(list, at + 10);
+    let head = u32::from(u16::from_be_bytes([list[at], list[at + 1]]));
+    let a = entry(head / 1024 % 32, word_at(list, at + 2));
+    let b = entry(head / 32 % 32, word_at(list, at + 6));
+    let c = entry(head % 32, word_at(list, at + 10));
     Group {
         zero: head / 32768,
-        first: Entry {
-            register: head / 1024 % 32,
-            spare: 0,
-            word: a,
-        },
-        second: Entry {
-            register: head / 32 % 32,
-            spare: 0,
-            word: b,
-        },
-        third: Entry {
-            register: head % 32,
-            spare: 0,
-            word: c,
-        },
+        entries: [a, b, c],
     }
 }
 
@@ -62,13 +50,14 @@ pub(crate) fn group_at(list: &[u8], g: usize) -> Group
 fn closing(x: Group) -> usize
     ensures { result ≡ closing_of x }
 {
-    if x.third.register != 31 {
+    let [a, b, c] = x.entries;
+    if c.register != 31 {
         return 0;
     }
-    if x.second.register != 31 {
+    if b.register != 31 {
         return 1;
     }
-    if x.first.register != 31 {
+    if a.register != 31 {
         return 2;
     }
     3

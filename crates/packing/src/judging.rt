@@ -4,10 +4,10 @@ ghost use Rattle.packing.specs.Reports.{report_of};
 ghost use Rattle.packing.specs.Groups.{group_of, count_of};
 ghost use Rattle.packing.specs.Conversions.{legality_of, pack_report};
 ghost use Rattle.packing.specs.Conversions.{passes, first_failing, placed, well_formed, judged_whole, unpack_report};
-ghost use Rattle.packing.specs.Passes.{judged_past, full_group, leading, one_present, two_present, rest_sound};
+ghost use Rattle.packing.specs.Passes.{judged_past, full_group, leading, present, rest_sound};
 
 use crate::groups::{Group, count_of, group_at};
-use crate::statuses::FileStatus;
+use crate::outcomes::{FileRefusal, FileStatus};
 use entries::{Entry, legal_at, legal_data, legal_entry};
 
 // The first illegal entry of an edition 1 list, entry by entry.
@@ -15,31 +15,25 @@ fn judge_entries(list: &[u8]) -> FileStatus
     ensures { report_of result ≡ legality_of list.now }
 {
     let count = list.len() / 5;
-    let mut place: usize = 0;
-    loop {
-        if count <= place {
-            break FileStatus::Done(14 * ((count + 2) / 3));
-        }
-        if !legal_at(list, place) {
-            break FileStatus::IllegalEntry(place);
-        }
-        place += 1;
+    match (0..count).find(|place| !legal_at(list, *place)) {
+        Some(place) => Err(FileRefusal::IllegalEntry(place)),
+        None => Ok(14 * ((count + 2) / 3)),
     }
 }
 
-// What packing into `room` bytes answers.
-pub(crate) fn pack_status(input: &[u8], room: usize) -> FileStatus
+// The bytes that packing into `room` bytes writes.
+pub(crate) fn packed_size(input: &[u8], room: usize) -> FileStatus
     ensures { report_of result ≡ pack_report input.now room }
 {
     let count = input.len() / 5;
     if (input.len() % 5 != 0) | (room / 14 < (count + 2) / 3) {
-        return FileStatus::WrongSize;
+        return Err(FileRefusal::WrongSize);
     }
     if input.len() == 0 {
-        return FileStatus::NoEntries;
+        return Err(FileRefusal::NoEntries);
     }
     if 4096 < count {
-        return FileStatus::TooMany;
+        return Err(FileRefusal::TooMany);
     }
     judge_entries(input)
 }
@@ -54,23 +48,11 @@ fn passes(e: Entry) -> bool
     legal_entry(e.register, e.spare, e.word)
 }
 
-// The first entry of a group that does not pass, 3 for none.
-fn first_failing(x: Group) -> usize
+// The first entry of a group that does not pass.
+fn first_failing(x: Group) -> Option<usize>
     ensures { result ≡ first_failing x }
 {
-    let a = x.first;
-    if !passes(a) {
-        return 0;
-    }
-    let b = x.second;
-    if !passes(b) {
-        return 1;
-    }
-    let c = x.third;
-    if !passes(c) {
-        return 2;
-    }
-    3
+    x.entries.iter().position(|e| !passes(*e))
 }
 
 // An entry before the count is no 31, and one past it has no data.
@@ -88,9 +70,10 @@ fn well_formed(x: Group, place: usize, count: usize) -> bool
     requires { place + 2 ≤ 18446744073709551615 }
     ensures { result ≡ well_formed x place count }
 {
-    let a = well_placed(x.first, place, count);
-    let b = well_placed(x.second, place + 1, count);
-    let c = well_placed(x.third, place + 2, count);
+    let [a, b, c] = x.entries;
+    let a = well_placed(a, place, count);
+    let b = well_placed(b, place + 1, count);
+    let c = well_placed(c, place + 2, count);
     (x.zero == 0) & a & b & c
 }
 
@@ -99,25 +82,19 @@ fn judge_groups(list: &[u8], count: usize, start: bool, from: usize) -> FileStat
     requires { count ≤ 4096 }
     ensures { report_of result ≡ judged_past list.now count start from }
 {
-    let groups = list.len() / 14;
     let mut sound = start;
-    let mut g = from;
-    loop {
-        if groups <= g {
-            break if sound {
-                FileStatus::Done(5 * count)
-            } else {
-                FileStatus::MalformedFile
-            };
-        }
+    for g in from..list.len() / 14 {
         let x = group_at(list, g);
-        let failing = first_failing(x);
-        let good = well_formed(x, 3 * g, count);
-        if failing < 3 {
-            break FileStatus::IllegalEntry(3 * g + failing);
+        if let Some(k) = first_failing(x) {
+            return Err(FileRefusal::IllegalEntry(3 * g + k));
         }
+        let good = well_formed(x, 3 * g, count);
         sound = sound & good;
-        g += 1;
+    }
+    if sound {
+        Ok(5 * count)
+    } else {
+        Err(FileRefusal::MalformedFile)
     }
 }
 
@@ -125,16 +102,7 @@ fn judge_groups(list: &[u8], count: usize, start: bool, from: usize) -> FileStat
 fn full(x: Group) -> bool
     ensures { result ≡ full_group x }
 {
-    if x.zero != 0 {
-        return false;
-    }
-    if !legal_data(x.first.register, x.first.word) {
-        return false;
-    }
-    if !legal_data(x.second.register, x.second.word) {
-        return false;
-    }
-    legal_data(x.third.register, x.third.word)
+    (x.zero == 0) && x.entries.iter().all(|e| legal_data(e.register, e.word))
 }
 
 // How many groups are full before the first that is not, at most `most`.
@@ -142,34 +110,26 @@ fn full_groups(list: &[u8], most: usize) -> usize
     requires { most ≤ length list.now / 14 }
     ensures { result ≡ leading (λ g. full_group (group_of list.now g)) 0 most }
 {
-    let mut g: usize = 0;
-    loop {
-        if most <= g {
-            break g;
+    for g in 0..most {
+        if !full(group_at(list, g)) {
+            return g;
         }
-        let x = group_at(list, g);
-        if !full(x) {
-            break g;
-        }
-        g += 1;
     }
+    most
 }
 
-// The zero bit zero, a legal entry, and no data after it.
-fn one_present(x: Group) -> bool
-    ensures { result ≡ one_present x }
+// The zero bit zero, one legal entry or two, and no data after them.
+fn present(x: Group, entries: usize) -> bool
+    ensures { result ≡ present x entries }
 {
-    let a = legal_entry(x.first.register, x.first.spare, x.first.word);
-    (x.zero == 0) & a & (x.second.word == 0) & (x.third.word == 0)
-}
-
-// The zero bit zero, two legal entries, and no data after them.
-fn two_present(x: Group) -> bool
-    ensures { result ≡ two_present x }
-{
-    let a = legal_entry(x.first.register, x.first.spare, x.first.word);
-    let b = legal_entry(x.second.register, x.second.spare, x.second.word);
-    (x.zero == 0) & a & b & (x.third.word == 0)
+    let [a, b, c] = x.entries;
+    let first = legal_entry(a.register, a.spare, a.word);
+    let second = if entries == 1 {
+        b.word == 0
+    } else {
+        legal_entry(b.register, b.spare, b.word)
+    };
+    (x.zero == 0) & first & second & (c.word == 0)
 }
 
 // Whether nothing is left after `from` full groups but the entries of a last group that is sound.
@@ -184,11 +144,7 @@ fn rest_sound(list: &[u8], groups: usize, count: usize, from: usize) -> bool
     if left == 0 {
         return 3 * groups == count;
     }
-    let x = group_at(list, groups - 1);
-    if left == 1 {
-        return one_present(x);
-    }
-    two_present(x)
+    present(group_at(list, groups - 1), left)
 }
 
 // The full groups first, which a sound file is made of but for the end; where it is not, group by group.
@@ -198,25 +154,25 @@ fn judge(list: &[u8], groups: usize, count: usize) -> FileStatus
 {
     let from = full_groups(list, count / 3);
     if rest_sound(list, groups, count, from) {
-        return FileStatus::Done(5 * count);
+        return Ok(5 * count);
     }
     judge_groups(list, count, 3 * groups < count + 3, from)
 }
 
-// What unpacking into `room` bytes answers.
-pub(crate) fn unpack_status(input: &[u8], room: usize) -> FileStatus
+// The bytes that unpacking into `room` bytes writes.
+pub(crate) fn unpacked_size(input: &[u8], room: usize) -> FileStatus
     ensures { report_of result ≡ unpack_report input.now room }
 {
     let groups = input.len() / 14;
     let count = count_of(input, groups);
     if (14 * groups != input.len()) | (room / 5 < count) {
-        return FileStatus::WrongSize;
+        return Err(FileRefusal::WrongSize);
     }
     if input.len() == 0 {
-        return FileStatus::NoEntries;
+        return Err(FileRefusal::NoEntries);
     }
     if 4096 < count {
-        return FileStatus::TooMany;
+        return Err(FileRefusal::TooMany);
     }
     judge(input, groups, count)
 }

@@ -5,8 +5,8 @@
 mod conversions;
 mod groups;
 mod judging;
-mod statuses;
+mod outcomes;
 mod writing;
 
 pub use conversions::{pack, unpack};
-pub use statuses::FileStatus;
+pub use outcomes::{FileRefusal, FileStatus, Filed};

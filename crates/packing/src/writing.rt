@@ -7,31 +7,27 @@ ghost use Rattle.packing.specs.Editions.{packed_group};
 ghost use Rattle.packing.specs.Groups.{position_of};
 
 use crate::groups::group_at;
-use entries::{Decoded, Entry, entry_at, join};
+use entries::{Entry, entry_at};
 
 fn put_word(out: &mut [u8], at: usize, word: u32)
     requires { at + 4 ≤ length out.old }
     ensures { out.new ≡ sets out.old at (word_bytes word) }
 {
-    out[at] = (word / 16777216 % 256) as u8;
-    out[at + 1] = (word / 65536 % 256) as u8;
-    out[at + 2] = (word / 256 % 256) as u8;
-    out[at + 3] = (word % 256) as u8;
+    out[at..at + 4].copy_from_slice(&word.to_be_bytes());
 }
 
-fn put_head(out: &mut [u8], at: usize, head: u32)
+fn put_head(out: &mut [u8], at: usize, head: u16)
     requires { at + 2 ≤ length out.old }
     ensures { out.new ≡ sets out.old at (head_bytes head) }
 {
-    out[at] = (head / 256 % 256) as u8;
-    out[at + 1] = (head % 256) as u8;
+    out[at..at + 2].copy_from_slice(&head.to_be_bytes());
 }
 
 // One zero bit and three register numbers.
-fn head_of(a: u32, b: u32, c: u32) -> u32
+fn head_of(a: u32, b: u32, c: u32) -> u16
     ensures { result ≡ head_of a b c }
 {
-    a % 32 * 1024 + b % 32 * 32 + c % 32
+    (a % 32 * 1024 + b % 32 * 32 + c % 32) as u16
 }
 
 fn put_entry(out: &mut [u8], at: usize, e: Entry)
@@ -56,20 +52,11 @@ fn put_group(out: &mut [u8], at: usize, a: Entry, b: Entry, c: Entry)
 fn present(list: &[u8], place: usize) -> Entry
     ensures { result ≡ present_of list.now place }
 {
-    match entry_at(list, place) {
-        Decoded::Whole(e) => e,
-        Decoded::Nothing => Entry {
-            register: 31,
-            spare: 0,
-            word: 0,
-        },
-    }
-}
-
-fn wide(b: u8) -> u32
-    ensures { result ≡ b }
-{
-    b as u32
+    entry_at(list, place).unwrap_or(Entry {
+        register: 31,
+        spare: 0,
+        word: 0,
+    })
 }
 
 // The entry of an edition 1 list at a place that it has.
@@ -78,16 +65,18 @@ fn entry_in(list: &[u8], place: usize) -> Entry
     ensures { result ≡ entry_of list.now place }
 {
     let at = 5 * place;
-    let first = wide(list[at]);
-    let word = join(list[at + 1], list[at + 2], list[at + 3], list[at + 4]);
-    Entry {
-        register: first / 8,
-        spare: first % 8,
-        word,
-    }
+    let bytes = [
+        list[at],
+        list[at + 1],
+        list[at + 2],
+        list[at + 3],
+        list[at + 4],
+    ];
+    Entry::of_bytes(bytes)
 }
 
 // Group g of an edition 1 list that has its three entries, in its place.
+// Kept: beside `put_packed`, so that a group that is whole is written without a test (docs/DECISIONS.md).
 fn put_whole(list: &[u8], out: &mut [u8], g: usize)
     requires { (g < length list.now / 15) × (g < length out.old / 14) }
     ensures { out.new ≡ sets out.old (14 * g) (packed_group list.now g) }
@@ -120,10 +109,8 @@ pub(crate) fn write_groups(list: &[u8], out: &mut [u8], groups: usize)
     requires { groups ≤ length out.old / 14 }
     ensures { out.new ≡ sets out.old 0 (strung (packed_group list.now) groups) }
 {
-    let mut g: usize = 0;
-    while g < groups {
+    for g in 0..groups {
         put_packed(list, out, g);
-        g += 1;
     }
 }
 
@@ -132,25 +119,23 @@ pub(crate) fn write_entries(list: &[u8], out: &mut [u8], count: usize)
     requires { (count ≤ length out.old / 5) × (count ≤ 3 * (length list.now / 14)) }
     ensures { out.new ≡ sets out.old 0 (list_of (position_of list.now) count) }
 {
-    let mut g: usize = 0;
-    let mut left = count;
-    while 3 <= left {
+    let whole = count / 3;
+    for g in 0..whole {
         let x = group_at(list, g);
         let at = 15 * g;
-        put_entry(out, at, x.first);
-        put_entry(out, at + 5, x.second);
-        put_entry(out, at + 10, x.third);
-        g += 1;
-        left -= 3;
+        put_entry(out, at, x.entries[0]);
+        put_entry(out, at + 5, x.entries[1]);
+        put_entry(out, at + 10, x.entries[2]);
     }
+    let left = count % 3;
     if left == 0 {
         return;
     }
-    let x = group_at(list, g);
-    let at = 15 * g;
-    put_entry(out, at, x.first);
+    let x = group_at(list, whole);
+    let at = 15 * whole;
+    put_entry(out, at, x.entries[0]);
     if left == 1 {
         return;
     }
-    put_entry(out, at + 5, x.second);
+    put_entry(out, at + 5, x.entries[1]);
 }

@@ -1,38 +1,27 @@
 -- Bytes put into the output one part after the other: digits, a header, a picture; and the size of a picture.
 -- Assumes nothing.
 use mathlib.Core.Path.{◌≡◌, refl, ap, ap₂, sym, ◌∙◌}
-use mathlib.Core.List.{List, [], ◌∷◌, ◌++◌, append_assoc, append-nil}
+use mathlib.Core.List.{List, [], ◌∷◌, ◌++◌, append_assoc}
 use Prim.Native.Nat.{ℕ, ◌+◌, ◌-◌, ◌*◌, ◌/◌, ◌%◌, ◌≤◌, ◌<◌}
 use native.Mathlib.Omega.{arith}
 use borrow.Author.Tests.{eq-eqb, ne_eqb, le-leb, lt-leb}
 use lib.ListN.{length, set, take, drop, length-append, length-drop}
-use lib.Seq.{sets-eq, take_all, take-length, drop-drop, drop-length}
+use lib.Seq.{sets-eq, take_all, drop-drop}
 use Rattle.lemmas.proofs.Memories.{sets-join, sets-front}
 use Rattle.lemmas.proofs.Products.{product-most}
 use Rattle.pictures.specs.Texts.{ascii}
 use Rattle.pictures.specs.Pictures.{decimal_of, header_of, picture_of, size_of}
 use Rattle.pictures.specs.Lent.{Lent, lent}
 use Rattle.pictures.specs.Writing.{put_at, written_of}
-use Rattle.pictures.specs.declared.writing.WriteStatus.TheVariants.{Done, WrongSize, TooShort}
+use Rattle.std.specs.Prelude.{Ok, Err}
+use Rattle.pictures.specs.declared.writing.WriteError.TheVariants.{WrongSize, TooShort}
 use Rattle.pictures.proofs.Decimals.{decimal-last, decimal-tenth, length_most}
 
 -- the part of a slice from a place on
 pub part-is : (l : List ℕ) (at : ℕ) → take (length l - at) (drop at l) ≡ drop at l
 part-is l at = take_all (length l - at) (drop at l) (omega (arith, length-drop at l))
 
--- bytes copied over such a part
-pub put-copied : (l bytes part : List ℕ) (at n : ℕ) → at + length bytes ≤ length l → n ≡ length bytes
-    → part ≡ take (length bytes) bytes ++ drop (length bytes) (take (length l - at) (drop at l))
-    → lent (at + n) (take at l ++ (part ++ drop (length l - at) (drop at l))) ≡ put_at l at bytes
-put-copied l bytes part at n h e f =
-    let past : at + (length l - at) ≡ length l = omega arith in
-    let none : drop (length l - at) (drop at l) ≡ [] =
-    drop-drop (length l - at) at l ∙ ap (λ (k : ℕ). drop k l) past ∙ drop-length l in
-    ap₂ lent (ap (λ (k : ℕ). at + k) e)
-    (rw (none, append-nil part, f, take-length bytes, part-is l at, drop-drop (length bytes) at l)
-    (sym (append_assoc (take at l) bytes (drop (at + length bytes) l)) ∙ sym (sets-eq bytes l at h)))
-
--- the same over a part as long as the bytes
+-- bytes copied over a part as long as they are
 pub put-over : (l bytes part : List ℕ) (at : ℕ) → at + length bytes ≤ length l → part ≡ bytes
     → lent (at + length bytes) (take at l ++ (part ++ drop (at + length bytes - at) (drop at l))) ≡ put_at l at bytes
 put-over l bytes part at h f =
@@ -90,22 +79,22 @@ picture-length w h pixels e = length-append (header_of w h) pixels ∙ ap (λ (n
 
 -- ---- what writing answers, by the tests that it passes
 module _ (w h : ℕ) (pixels out : List ℕ) (n : ℕ) (area : n ≡ w * h) where
-  pub write-wrong-size : (length pixels ≡ n → ⊥) → lent WrongSize out ≡ written_of w h pixels out
+  pub write-wrong-size : (length pixels ≡ n → ⊥) → lent (Err WrongSize) out ≡ written_of w h pixels out
   unfolding written_of
   write-wrong-size e = rw (ne_eqb (length pixels) (w * h) (λ f. e (f ∙ sym area)))
 
   module _ (whole : length pixels ≡ n) (size : ℕ) (e : size ≡ size_of w h) where
-    pub write-too-short : length out < size → lent TooShort out ≡ written_of w h pixels out
+    pub write-too-short : length out < size → lent (Err TooShort) out ≡ written_of w h pixels out
     unfolding written_of
     write-too-short k = rw (eq-eqb (length pixels) (w * h) (whole ∙ area), lt-leb (size_of w h) (length out) (omega arith))
 
     pub write_done : (p q : Lent ℕ) → size ≤ length out → p ≡ put_at out 0 (header_of w h) → q ≡ put_at p.bytes p.answer pixels
-        → lent (Done size) q.bytes ≡ written_of w h pixels out
+        → lent (Ok size) q.bytes ≡ written_of w h pixels out
     unfolding written_of
     write_done p q k f g =
         let x = picture_of w h pixels in
         let all = picture-length w h pixels (whole ∙ area) in
         rw (eq-eqb (length pixels) (w * h) (whole ∙ area), le-leb (size_of w h) (length out) (omega arith))
-        (ap₂ lent (ap Done e)
+        (ap₂ lent (ap Ok e)
         (ap (λ (r : Lent ℕ). r.bytes) (put_then out (header_of w h) pixels 0 p q f g)
         ∙ sets-front x out (omega arith) ∙ ap (λ (k : ℕ). x ++ drop k out) all))

@@ -9,18 +9,26 @@ use borrow.Author.Tests.{eq-eqb, ne_eqb, le-leb, lt-leb, eqb-true, leb-true}
 use lib.Dec.{eqb, leb}
 use lib.ListN.{length, get_or, take, drop, length-drop}
 use lib.Seq.{slice, take-length, drop-length}
+use Rattle.std.proofs.lemmas.List.{drop-take}
 use Rattle.lemmas.proofs.Booleans.{by_cases, and_left, and_right}
 use Rattle.pictures.specs.Texts.{is_white, says_size}
 use Rattle.pictures.specs.Pictures.{is_picture}
 use Rattle.pictures.specs.Lent.{lent}
 use Rattle.pictures.specs.Reading.{raster_of, read_of}
-use Rattle.pictures.specs.declared.reading.Raster.TheVariants.{From, Nowhere}
-use Rattle.pictures.specs.declared.reading.ReadStatus.TheVariants.{Done, WrongSize, NotAPicture}
+use Rattle.std.specs.Prelude.{Some, None, Ok, Err}
+use Rattle.pictures.specs.declared.reading.ReadError.TheVariants.{WrongSize, NotAPicture}
 use Rattle.pictures.proofs.Puts.{part-is}
+
+-- what the text between P5 and the white space says
+pub said-of : (w h : ℕ) (l : List ℕ) (end : ℕ) (t : Bool) → 2 ≤ end → t ≡ says_size w h (take (end - 2) (drop 2 l))
+    → says_size w h (slice 2 end l) ≡ t
+said-of w h l end t a e =
+    let k : end ≡ 2 + (end - 2) = omega arith in
+    ap (says_size w h) (ap (λ (n : ℕ). drop 2 (take n l)) k ∙ drop-take 2 (end - 2) l) ∙ sym e
 
 module _ (w h : ℕ) (l : List ℕ) where
   -- ---- the tests of a picture
-  pub raster-short : length l < w * h + 3 → Nowhere ≡ raster_of w h l
+  pub raster-short : length l < w * h + 3 → None ≡ raster_of w h l
   unfolding raster_of is_picture
   raster-short a = rw (lt-leb (w * h + 3) (length l) a)
 
@@ -33,16 +41,16 @@ module _ (w h : ℕ) (l : List ℕ) where
     unfolding is_picture
     picture-is = rw (← e, ← g, le-leb (w * h + 3) (length l) long)
 
-    pub raster-unframed : framed ≡ false → Nowhere ≡ raster_of w h l
+    pub raster-unframed : framed ≡ false → None ≡ raster_of w h l
     unfolding raster_of
     raster-unframed x = rw (picture-is, x)
 
-    pub raster-unsaid : framed ≡ true → says_size w h (slice 2 end l) ≡ false → Nowhere ≡ raster_of w h l
+    pub raster-unsaid : framed ≡ true → says_size w h (slice 2 end l) ≡ false → None ≡ raster_of w h l
     unfolding raster_of
     raster-unsaid x y = rw (picture-is, x, y)
 
     pub raster-from : framed ≡ true → says_size w h (slice 2 end l) ≡ true
-        → (start : ℕ) → start ≡ length l - w * h → From start ≡ raster_of w h l
+        → (start : ℕ) → start ≡ length l - w * h → Some start ≡ raster_of w h l
     unfolding raster_of
     raster-from x y start i = rw (picture-is, x, y, i)
 
@@ -69,24 +77,24 @@ module _ (w h : ℕ) (l : List ℕ) where
       )
 
   -- ---- where a raster was found or not
-  pub raster-found : (start : ℕ) → From start ≡ raster_of w h l → (is_picture w h l ≡ true) × (start ≡ length l - w * h)
+  pub raster-found : (start : ℕ) → Some start ≡ raster_of w h l → (is_picture w h l ≡ true) × (start ≡ length l - w * h)
   unfolding raster_of
   raster-found start e = by_cases (is_picture w h l) (λ t. (t, same (length l - w * h) (rw t at e))) (λ t. absurd (never (rw t at e)))
     where
-      same : (i : ℕ) → From start ≡ From i → start ≡ i
+      same : (i : ℕ) → Some start ≡ Some i → start ≡ i
       same i q = cc
 
-      never : From start ≡ Nowhere → ⊥
+      never : Some start ≡ None → ⊥
       never q = let z : ◌≡◌ {A = ℕ} 0 1 = cc in omega arith
 
-  pub raster-none : Nowhere ≡ raster_of w h l → is_picture w h l ≡ false
+  pub raster-none : None ≡ raster_of w h l → is_picture w h l ≡ false
   unfolding raster_of
   raster-none e = by_cases (is_picture w h l) (λ t. absurd (never (length l - w * h) (rw t at e))) (λ t. t)
     where
-      never : (i : ℕ) → Nowhere ≡ From i → ⊥
+      never : (i : ℕ) → None ≡ Some i → ⊥
       never i q = let z : ◌≡◌ {A = ℕ} 0 1 = cc in omega arith
 
-  pub raster-fits : (start : ℕ) → From start ≡ raster_of w h l → (start ≤ length l) × (length (drop start l) ≡ w * h)
+  pub raster-fits : (start : ℕ) → Some start ≡ raster_of w h l → (start ≤ length l) × (length (drop start l) ≡ w * h)
   raster-fits start e =
       let p = raster-found start e in
       let long : w * h + 3 ≤ length l = (picture-tests p.0).0 in
@@ -94,30 +102,30 @@ module _ (w h : ℕ) (l : List ℕ) where
 
   -- ---- what reading answers
   module _ (buffer : List ℕ) (n : ℕ) (area : n ≡ w * h) where
-    pub read-wrong-size : (length buffer ≡ n → ⊥) → lent WrongSize buffer ≡ read_of w h l buffer
+    pub read-wrong-size : (length buffer ≡ n → ⊥) → lent (Err WrongSize) buffer ≡ read_of w h l buffer
     unfolding read_of
     read-wrong-size e = rw (ne_eqb (length buffer) (w * h) (λ f. e (f ∙ sym area)))
 
     module _ (whole : length buffer ≡ n) where
-      pub read-refused : Nowhere ≡ raster_of w h l → lent NotAPicture buffer ≡ read_of w h l buffer
+      pub read-refused : None ≡ raster_of w h l → lent (Err NotAPicture) buffer ≡ read_of w h l buffer
       unfolding read_of
       read-refused e = rw (eq-eqb (length buffer) (w * h) (whole ∙ area), raster-none e)
 
       -- the pixels are copied over the whole buffer
-      pub read_done : (start : ℕ) (m : List ℕ) → From start ≡ raster_of w h l →
+      pub read_done : (start : ℕ) (m : List ℕ) → Some start ≡ raster_of w h l →
           let x = take (length l - start) (drop start l) in
-          m ≡ take (length x) x ++ drop (length x) buffer → lent Done m ≡ read_of w h l buffer
+          m ≡ take (length x) x ++ drop (length x) buffer → lent (Ok tt) m ≡ read_of w h l buffer
       unfolding read_of
       read_done start m e f =
           let p = raster-found start e in
           let x = drop start l in
           let same : length x ≡ length buffer = (raster-fits start e).1 ∙ sym (whole ∙ area) in
           rw (eq-eqb (length buffer) (w * h) (whole ∙ area), p.0)
-          (ap (lent Done)
+          (ap (lent (Ok tt))
           (f ∙ rw (part-is l start, take-length x, same, drop-length buffer) (append-nil x ∙ ap (λ (k : ℕ). drop k l) p.1)))
 
-      pub read_all : (start : ℕ) (m : List ℕ) → From start ≡ raster_of w h l → m ≡ take (length l - start) (drop start l)
-          → lent Done m ≡ read_of w h l buffer
+      pub read_all : (start : ℕ) (m : List ℕ) → Some start ≡ raster_of w h l → m ≡ take (length l - start) (drop start l)
+          → lent (Ok tt) m ≡ read_of w h l buffer
       read_all start m e f =
           let x = take (length l - start) (drop start l) in
           let same : length x ≡ length buffer =

@@ -5,11 +5,10 @@ use mathlib.Core.Bool.{Bool, true, false, not, ◌&&◌}
 use mathlib.Core.List.{List, [], ◌∷◌}
 use Prim.Native.Nat.{ℕ, suc, ◌+◌, ◌≤◌, ◌<◌}
 use native.Mathlib.Numerals.{add-one}
-use native.Mathlib.Omega.{arith}
 use borrow.Author.Tests.{eq-eqb, ne_eqb}
 use lib.Dec.{eqb, leb}
-use lib.ListN.{length, get_or}
-use lib.Seq.{slice, slice-cons, slice_empty}
+use lib.ListN.{length, get_or, drop, drop_of_length-le}
+use Rattle.std.proofs.Math.Seq.{drop-cons}
 use Rattle.pictures.specs.Texts.{ends_comment, without_comments, says_size}
 use Rattle.pictures.specs.Readers.{wanted_of, goes_on, Follows, accepts}
 use Rattle.pictures.specs.declared.headers.Stage.{Stage}
@@ -51,14 +50,12 @@ module _ (w h : ℕ) where
     ends-early s p q = rw p (sym (q r.comment))
 
   -- the loop over a text's bytes, which are `all` of them accepted or not
-  module _ (l : List ℕ) (end : ℕ) (all : Bool) where
-    pub accepts-next : (r s : Reader) (k : ℕ) → k < end → end ≤ length l
-        → ((t : List ℕ) → accepts w h s t ≡ accepts w h r (get_or l k 0 ∷ t)) → accepts w h r (slice k end l) ≡ all
-        → accepts w h s (slice (k + 1) end l) ≡ all
-    accepts-next r s k a b e i = rw add-one (e (slice (suc k) end l) ∙ ap (accepts w h r) (sym (slice-cons k end l 0 a b)) ∙ i)
+  module _ (l : List ℕ) (all : Bool) where
+    pub accepts-next : (r s : Reader) (k : ℕ) → k < length l
+        → ((t : List ℕ) → accepts w h s t ≡ accepts w h r (get_or l k 0 ∷ t)) → accepts w h r (drop k l) ≡ all
+        → accepts w h s (drop (k + 1) l) ≡ all
+    accepts-next r s k a e i = rw add-one (e (drop (suc k) l) ∙ ap (accepts w h r) (sym (drop-cons l k 0 a)) ∙ i)
 
-    pub accepts-all : (r : Reader) (k : ℕ) (x : Bool) → k ≤ end → end ≤ k → accepts w h r (slice k end l) ≡ all
+    pub accepts-all : (r : Reader) (k : ℕ) (x : Bool) → length l ≤ k → accepts w h r (drop k l) ≡ all
         → x ≡ accepts w h r [] → x ≡ all
-    accepts-all r k x a b i e =
-        let same : k ≡ end = omega arith in
-        e ∙ ap (accepts w h r) (sym (ap (λ (n : ℕ). slice n end l) same ∙ slice_empty end l)) ∙ i
+    accepts-all r k x a i e = e ∙ ap (accepts w h r) (sym (drop_of_length-le l a)) ∙ i

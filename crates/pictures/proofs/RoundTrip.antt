@@ -13,7 +13,7 @@ use Rattle.pictures.specs.Pictures.{Picture, is_picture, pixels_of, decimal_by, 
 use Rattle.pictures.specs.Lent.{lent}
 use Rattle.pictures.specs.Writing.{written_of}
 use Rattle.pictures.specs.Reading.{read_of}
-use Rattle.pictures.specs.declared.reading.ReadStatus.TheVariants.{Done}
+use Rattle.std.specs.Prelude.{Ok}
 use Rattle.pictures.specs.RoundTrip.{AcceptsPictures, Unpadded, WritesPictures, Sizes, Restores}
 use Rattle.pictures.proofs.Decimals.{decimal}
 use Rattle.pictures.proofs.Numerals.{passes, keeps, no-comment, drop-digit, reads-decimal}
@@ -135,4 +135,4 @@ restores w h pixels output buffer e f g =
     let q = (accepts-pictures w h x).1 p.0 in
     let all = take_at x (drop (size_of w h) output) (size_of w h) (picture-length w h pixels e) in
     rw (eq-eqb (length pixels) (w * h) e, le-leb (size_of w h) (length output) f, all, eq-eqb (length buffer) (w * h) g, q.0)
-    (ap (lent Done) (q.1 ∙ p.1))
+    (ap (lent (Ok tt)) (q.1 ∙ p.1))

@@ -1,13 +1,13 @@
 -- Headers and pictures that show the rules (02, R-9); computed in proofs/Examples.antt.
-use Rattle.std.specs.Prelude.{◌≡◌, Bool, true, false, [], ◌∷◌}
+use Rattle.std.specs.Prelude.{◌≡◌, Bool, true, false, Result, Ok, Err, [], ◌∷◌}
 use Prim.Native.String.{String}
 use Rattle.pictures.specs.Texts.{ascii, says_size}
 use Rattle.pictures.specs.Lent.{Lent, lent}
 use Rattle.pictures.specs.Writing.{written_of}
 use Rattle.pictures.specs.Reading.{read_of}
-use Rattle.pictures.specs.declared.writing.WriteStatus.TheVariants.{Done as Written, WrongSize, TooShort}
-use Rattle.pictures.specs.declared.reading.ReadStatus.{ReadStatus}
-use Rattle.pictures.specs.declared.reading.ReadStatus.TheVariants.{Done, NotAPicture}
+use Rattle.pictures.specs.declared.writing.WriteError.TheVariants.{WrongSize, TooShort}
+use Rattle.pictures.specs.declared.reading.ReadError.{ReadError}
+use Rattle.pictures.specs.declared.reading.ReadError.TheVariants.{NotAPicture}
 
 -- What stands between P5 and the one white space after the 255, for 16 by 6.
 abbrev says : String → Bool
@@ -39,17 +39,17 @@ abbrev pub LargeNumbers : Type 0
 LargeNumbers = (says "\n4294967312 6 255" ≡ false) × (says "\n18446744073709551632 6 255" ≡ false)
 
 -- A picture of 2 by 1 read into a buffer of two bytes.
-abbrev read : String → Lent ReadStatus
+abbrev read : String → Lent (Result (Unit {0}) ReadError)
 read text = read_of 2 1 (ascii text) (7 ∷ 8 ∷ [])
 
-abbrev refused : Lent ReadStatus
-refused = lent NotAPicture (7 ∷ 8 ∷ [])
+abbrev refused : Lent (Result (Unit {0}) ReadError)
+refused = lent (Err NotAPicture) (7 ∷ 8 ∷ [])
 
 -- White space "just one after the 255": past it a # and a newline are pixels.
 abbrev pub Pictures : Type 0
 Pictures =
-    (read "P5\n2 1\n255\nab" ≡ lent Done (ascii "ab"))
-    × (read "P5 2 1 255 #\n" ≡ lent Done (ascii "#\n"))
+    (read "P5\n2 1\n255\nab" ≡ lent (Ok tt) (ascii "ab"))
+    × (read "P5 2 1 255 #\n" ≡ lent (Ok tt) (ascii "#\n"))
     × (read "P5 2 1 255  ab" ≡ refused)
     × (read "P5#c\n2 1 255 ab" ≡ refused)
     × (read "P5 2 1 255#c\nab" ≡ refused)
@@ -67,6 +67,6 @@ Refused =
 -- Two pixels written: the output past the picture stays; one byte too short, or with pixels of another size, all stays.
 abbrev pub WrittenPictures : Type 0
 WrittenPictures =
-    (written_of 2 1 (ascii "ab") (ascii ".............!") ≡ lent (Written 13) (ascii "P5\n2 1\n255\nab!"))
-    × (written_of 2 1 (ascii "ab") (ascii "............") ≡ lent TooShort (ascii "............"))
-    × (written_of 2 1 (ascii "abc") (ascii ".") ≡ lent WrongSize (ascii "."))
+    (written_of 2 1 (ascii "ab") (ascii ".............!") ≡ lent (Ok 13) (ascii "P5\n2 1\n255\nab!"))
+    × (written_of 2 1 (ascii "ab") (ascii "............") ≡ lent (Err TooShort) (ascii "............"))
+    × (written_of 2 1 (ascii "abc") (ascii ".") ≡ lent (Err WrongSize) (ascii "."))

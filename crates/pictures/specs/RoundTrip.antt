@@ -1,11 +1,10 @@
 -- What holds of pictures (02, R-9); proved in proofs/RoundTrip.antt.
-use Rattle.std.specs.Prelude.{◌≡◌, true, false, List, [], ℕ, ◌+◌, ◌*◌, ◌≤◌, eqb, length, take}
+use Rattle.std.specs.Prelude.{◌≡◌, true, false, Ok, List, [], ℕ, ◌+◌, ◌*◌, ◌≤◌, eqb, length, take}
 use Rattle.pictures.specs.Texts.{is_digit, drop_while, starts_with, value_from}
 use Rattle.pictures.specs.Pictures.{Picture, is_picture, pixels_of, decimal_of, picture_of, size_of}
 use Rattle.pictures.specs.Lent.{lent}
 use Rattle.pictures.specs.Writing.{written_of}
 use Rattle.pictures.specs.Reading.{read_of}
-use Rattle.pictures.specs.declared.reading.ReadStatus.TheVariants.{Done}
 
 -- The test accepts pictures and nothing else, and what it takes for the pixels are the picture's.
 abbrev pub AcceptsPictures : Type 0
@@ -36,4 +35,4 @@ abbrev pub Restores : Type 0
 Restores =
     (width height : ℕ) (pixels output buffer : List ℕ) → length pixels ≡ width * height → size_of width height ≤ length output
     → length buffer ≡ width * height
-    → read_of width height (take (size_of width height) (written_of width height pixels output).bytes) buffer ≡ lent Done pixels
+    → read_of width height (take (size_of width height) (written_of width height pixels output).bytes) buffer ≡ lent (Ok tt) pixels

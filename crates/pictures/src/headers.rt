@@ -1,8 +1,9 @@
 // The text of a picture's header, byte by byte.
-ghost use Rattle.std.specs.Prelude.{◌≡◌, true, List, [], ◌∷◌, ℕ, ◌≤◌, ◌<◌, length};
-ghost use Rattle.std.proofs.Math.Seq.{slice};
+ghost use Rattle.std.specs.Prelude.{◌≡◌, true, List, [], ◌∷◌, ℕ, ◌<◌};
 ghost use Rattle.pictures.specs.Texts.{is_white, is_digit, ends_comment, says_size};
 ghost use Rattle.pictures.specs.Readers.{wanted_of, Longer, Follows, accepts};
+
+use crate::sizes::Size;
 
 // How far the numbers of a header are read, comments left out.
 #[derive(Clone, Copy)]
@@ -17,6 +18,7 @@ pub(crate) enum Stage {
 }
 
 // The same, and whether a comment is open.
+// Kept: `comment` beside the stage, which goes on after the comment as it was.
 #[derive(Clone, Copy)]
 pub(crate) struct Reader {
     pub comment: bool,
@@ -26,32 +28,26 @@ pub(crate) struct Reader {
 pub(crate) fn is_white(b: u8) -> bool
     ensures { result ≡ is_white b }
 {
-    (b == b' ') | (b == b'\t') | (b == b'\n') | (b == b'\r')
-}
-
-fn is_digit(b: u8) -> bool
-    ensures { result ≡ is_digit b }
-{
-    (b'0' <= b) & (b <= b'9')
+    matches!(b, b' ' | b'\t' | b'\n' | b'\r')
 }
 
 fn ends_comment(b: u8) -> bool
     ensures { result ≡ ends_comment b }
 {
-    (b == b'\n') | (b == b'\r')
+    matches!(b, b'\n' | b'\r')
 }
 
-// Number k of a picture of this size.
-fn wanted(width: u32, height: u32, k: u32) -> u64
-    ensures { result ≡ wanted_of width height k }
-{
-    if k == 0 {
-        return width as u64;
+impl Size {
+    // Number k of a header: the width, the height, and the greatest grey.
+    fn number(self, k: u32) -> u64
+        ensures { result ≡ wanted_of self.width self.height k }
+    {
+        match k {
+            0 => u64::from(self.width),
+            1 => u64::from(self.height),
+            _ => 255,
+        }
     }
-    if k == 1 {
-        return height as u64;
-    }
-    255
 }
 
 // A number with one more digit. One past 32 bits stays, so that none wraps.
@@ -62,22 +58,20 @@ fn longer(v: u64, b: u8) -> u64
     if 4294967295 < v {
         return v;
     }
-    v * 10 + (b - b'0') as u64
+    v * 10 + u64::from(b - b'0')
 }
 
 impl Stage {
     // The stage after white space.
-    fn white(self, width: u32, height: u32) -> Stage
-        ensures { (b : ℕ) → is_white b ≡ true → Follows width height self b result }
+    fn white(self, size: Size) -> Stage
+        ensures { (b : ℕ) → is_white b ≡ true → Follows size.width size.height self b result }
     {
         match self {
             Stage::Start => Stage::White(0),
             Stage::White(k) => Stage::White(k),
             Stage::Number(k, v) => {
-                let n = wanted(width, height, k);
-                if (v == n) & (k < 2) {
-                    let next = k + 1;
-                    Stage::White(next)
+                if (v == size.number(k)) & (k < 2) {
+                    Stage::White(k + 1)
                 } else {
                     Stage::Broken
                 }
@@ -111,8 +105,8 @@ impl Reader {
     }
 
     // The reader after a byte.
-    fn after(self, b: u8, width: u32, height: u32) -> Reader
-        ensures { (l : List ℕ) → accepts width height result l ≡ accepts width height self (b ∷ l) }
+    fn after(self, b: u8, size: Size) -> Reader
+        ensures { (l : List ℕ) → accepts size.width size.height result l ≡ accepts size.width size.height self (b ∷ l) }
     {
         let stage = self.stage;
         if self.comment {
@@ -130,10 +124,10 @@ impl Reader {
         if is_white(b) {
             return Reader {
                 comment: false,
-                stage: stage.white(width, height),
+                stage: stage.white(size),
             };
         }
-        if is_digit(b) {
+        if b.is_ascii_digit() {
             return Reader {
                 comment: false,
                 stage: stage.digit(b),
@@ -146,29 +140,23 @@ impl Reader {
     }
 
     // Whether the text may end here.
-    fn at_end(self, width: u32, height: u32) -> bool
-        ensures { result ≡ accepts width height self [] }
+    fn at_end(self, size: Size) -> bool
+        ensures { result ≡ accepts size.width size.height self [] }
     {
-        let stage = self.stage;
-        match stage {
-            Stage::Start => false,
-            Stage::White(_) => false,
-            Stage::Number(k, v) => (!self.comment) & (v == wanted(width, height, k)) & (2 <= k),
-            Stage::Broken => false,
+        match self.stage {
+            Stage::Number(k, v) => (!self.comment) & (v == size.number(k)) & (2 <= k),
+            Stage::Start | Stage::White(_) | Stage::Broken => false,
         }
     }
 }
 
-// Whether the bytes from 2 up to `end` are the numbers of a picture of this size.
-pub(crate) fn says_size(picture: &[u8], end: usize, width: u32, height: u32) -> bool
-    requires { (2 ≤ end) × (end ≤ length picture.now) }
-    ensures { result ≡ says_size width height (slice 2 end picture.now) }
+// Whether a text is the numbers of a picture of this size.
+pub(crate) fn says_size(text: &[u8], size: Size) -> bool
+    ensures { result ≡ says_size size.width size.height text.now }
 {
     let mut reader = Reader::start();
-    let mut k: usize = 2;
-    while k < end {
-        reader = reader.after(picture[k], width, height);
-        k += 1;
+    for b in text {
+        reader = reader.after(*b, size);
     }
-    reader.at_end(width, height)
+    reader.at_end(size)
 }

@@ -8,5 +8,5 @@ mod reading;
 mod sizes;
 mod writing;
 
-pub use reading::{ReadStatus, read_picture};
-pub use writing::{WriteStatus, write_picture};
+pub use reading::{ReadError, read_picture};
+pub use writing::{WriteError, write_picture};

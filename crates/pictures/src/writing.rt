@@ -4,13 +4,11 @@ ghost use Rattle.pictures.specs.Lent.{lent};
 ghost use Rattle.pictures.specs.Pictures.{decimal_of, header_of};
 ghost use Rattle.pictures.specs.Writing.{put_at, written_of};
 
-use crate::sizes::{area, picture_size};
+use crate::sizes::Size;
 
-// The outcome of writing a picture.
-#[derive(Clone, Copy)]
-pub enum WriteStatus {
-    // Done, with the bytes written.
-    Done(usize),
+// Why a picture is not written.
+#[derive(Clone, Copy, PartialEq, Eq)]
+pub enum WriteError {
     // The pixels are not width x height.
     WrongSize,
     // The output is shorter than the picture needs.
@@ -42,29 +40,35 @@ fn put_decimal(output: &mut [u8], at: usize, n: u32) -> usize
 }
 
 // All before the pixels, from the front of the output on; the place after it.
-fn put_header(output: &mut [u8], width: u32, height: u32) -> usize
-    requires { length (header_of width height) ≤ length output.old }
-    ensures { lent result output.new ≡ put_at output.old 0 (header_of width height) }
+fn put_header(output: &mut [u8], size: Size) -> usize
+    requires { length (header_of size.width size.height) ≤ length output.old }
+    ensures { lent result output.new ≡ put_at output.old 0 (header_of size.width size.height) }
 {
     let a = put_bytes(output, 0, b"P5\n");
-    let b = put_decimal(output, a, width);
+    let b = put_decimal(output, a, size.width);
     let c = put_bytes(output, b, b" ");
-    let d = put_decimal(output, c, height);
+    let d = put_decimal(output, c, size.height);
     put_bytes(output, d, b"\n255\n")
 }
 
-// A picture of these pixels into the output. In a refusal nothing is written.
-pub fn write_picture(pixels: &[u8], width: u32, height: u32, output: &mut [u8]) -> WriteStatus
+// A picture of these pixels into the output; the bytes written. In a refusal nothing is written.
+pub fn write_picture(
+    pixels: &[u8],
+    width: u32,
+    height: u32,
+    output: &mut [u8],
+) -> Result<usize, WriteError>
     ensures { lent result output.new ≡ written_of width height pixels.now output.old }
 {
-    if pixels.len() != area(width, height) {
-        return WriteStatus::WrongSize;
+    let size = Size { width, height };
+    if pixels.len() != size.area() {
+        return Err(WriteError::WrongSize);
     }
-    let size = picture_size(width, height);
-    if output.len() < size {
-        return WriteStatus::TooShort;
+    let bytes = size.bytes();
+    if output.len() < bytes {
+        return Err(WriteError::TooShort);
     }
-    let start = put_header(output, width, height);
+    let start = put_header(output, size);
     put_bytes(output, start, pixels);
-    WriteStatus::Done(size)
+    Ok(bytes)
 }

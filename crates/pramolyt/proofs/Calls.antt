@@ -1,16 +1,17 @@
 -- A call on an image answers as the call on its record, and is refused where the image is no record's.
 -- Assumes nothing.
-use mathlib.Core.Path.{◌≡◌, refl, ap, ◌∙◌}
-use mathlib.Core.Bool.{Bool, true, false, not}
+use mathlib.Core.Path.{◌≡◌, refl, ap, sym, ◌∙◌}
+use mathlib.Core.Bool.{Bool, true, false}
 use mathlib.Core.List.{List}
 use Prim.Native.Nat.{ℕ}
-use borrow.Author.Tests.{not-true, not-false}
+use Rattle.std.specs.Prelude.{Result}
 use Rattle.answers.specs.Reports.{report_of}
+use Rattle.answers.specs.declared.Refusal.{Refusal}
 use Rattle.board.specs.Calls.{reply, make_call, post_call, written, store_call, write_call}
 use Rattle.board.specs.Steps.{machine}
 use Rattle.board.specs.Runs.{run_call}
 use Rattle.board.specs.Feeding.{feed_reply, feed_call}
-use Rattle.board.specs.Picturing.{exported, export_call, import_call}
+use Rattle.board.specs.Picturing.{exported, exported_as, export_call, import_call}
 use Rattle.board.specs.declared.answer.ExportAnswer.{ExportAnswer}
 use Rattle.board.specs.declared.answer.FeedAnswer.{FeedAnswer}
 use Rattle.feeds.specs.declared.Feed.{Feed}
@@ -20,9 +21,9 @@ use Rattle.pramolyt.specs.Image.{words_of, board_of, flags_ok}
 use Rattle.pramolyt.specs.Exports.{of_image, made, made_by, make_image, posted, posted_by, post_image, changed, changed_by, store_image, write_image, pictured, pictured_by, export_image, import_image, Ran, ran, ran_by, run_image, received, received_by, feed_image}
 
 -- a flag is neither 0 nor 1
-module _ (w : List ℕ) (t : Bool) (judged : t ≡ flags_ok w) (bad : not t ≡ true) where
+module _ (w : List ℕ) (t : Bool) (judged : t ≡ flags_ok w) (bad : t ≡ false) where
   refused : {A : Type 0} (done stays : A) → stays ≡ of_image w done stays
-  refused done stays = rw (← judged, not-true t bad)
+  refused done stays = rw (← judged, bad)
 
   pub post-refused : (list : List ℕ) (start count : ℕ) → posted 1 w 0 ≡ post_image w list start count
   unfolding post_image
@@ -55,10 +56,10 @@ module _ (w : List ℕ) (t : Bool) (judged : t ≡ flags_ok w) (bad : not t ≡ 
   feed-refused f list piece = refused (received_by (feed_call list f piece (board_of w))) (received 1 w f list)
 
 -- a call on the record of an image
-module _ (w : List ℕ) (t : Bool) (judged : t ≡ flags_ok w) (good : not t ≡ false) (b : Board) (decoded : b ≡ board_of w) where
+module _ (w : List ℕ) (t : Bool) (judged : t ≡ flags_ok w) (good : t ≡ true) (b : Board) (decoded : b ≡ board_of w) where
   on-record : {A R : Type 0} (handed : R → A) (call : Board → R) (r : R) → r ≡ call b → (stays : A)
       → handed r ≡ of_image w (handed (call (board_of w))) stays
-  on-record handed call r answered stays = rw (← judged, not-false t good, answered, decoded)
+  on-record handed call r answered stays = rw (← judged, good, answered, decoded)
 
   pub feed-done : (a : FeedAnswer) (words : List ℕ) → words ≡ words_of a.board → (number : ℕ) → number ≡ (report_of a.status).number
       → (f : Feed) (list piece memory : List ℕ) → feed_reply a memory ≡ feed_call list f piece b
@@ -67,12 +68,12 @@ module _ (w : List ℕ) (t : Bool) (judged : t ≡ flags_ok w) (good : not t ≡
   feed-done a words encoded number numbered f list piece memory answered =
       rw (encoded, numbered) (on-record received_by (feed_call list f piece) (feed_reply a memory) answered (received 1 w f list))
 
-  pub export-done : (a : ExportAnswer) (words : List ℕ) → words ≡ words_of a.board → (number : ℕ) → number ≡ (report_of a.status).number
-      → (bytes n : ℕ) (buffer output after : List ℕ) → bytes ≡ a.written → exported a after ≡ export_call n buffer output b
-      → pictured number words bytes after ≡ export_image w n buffer output
+  pub export-done : (a : ExportAnswer) (r : Result ℕ Refusal) → a.written ≡ r → (n : ℕ) (buffer output after : List ℕ)
+      → exported a after ≡ export_call n buffer output b → pictured_by (exported_as a.board r after) ≡ export_image w n buffer output
   unfolding export_image
-  export-done a words encoded number numbered bytes n buffer output after count answered =
-      rw (encoded, numbered, count) (on-record pictured_by (export_call n buffer output) (exported a after) answered (pictured 1 w 0 output))
+  export-done a r is n buffer output after answered =
+      ap (λ r. pictured_by (exported_as a.board r after)) (sym is)
+      ∙ on-record pictured_by (export_call n buffer output) (exported a after) answered (pictured 1 w 0 output)
 
 -- an answer handed back
 module _ (a : Answer) (words : List ℕ) (encoded : words ≡ words_of a.board) (number : ℕ) (numbered : number ≡ (report_of a.status).number) where
@@ -81,7 +82,7 @@ module _ (a : Answer) (words : List ℕ) (encoded : words ≡ words_of a.board) 
   make-done width height entries answered = rw (encoded, numbered) (ap made_by answered)
 
   -- the call on the record of an image
-  module _ (w : List ℕ) (t : Bool) (judged : t ≡ flags_ok w) (good : not t ≡ false) (b : Board) (decoded : b ≡ board_of w) where
+  module _ (w : List ℕ) (t : Bool) (judged : t ≡ flags_ok w) (good : t ≡ true) (b : Board) (decoded : b ≡ board_of w) where
     abbrev done : {A R : Type 0} (handed : R → A) (call : Board → R) (r : R) → r ≡ call b → (stays : A)
         → handed r ≡ of_image w (handed (call (board_of w))) stays
     done = on-record w t judged good b decoded
@@ -111,7 +112,7 @@ module _ (a : Answer) (words : List ℕ) (encoded : words ≡ words_of a.board) 
         rw (encoded, numbered) (done changed_by (import_call n picture buffer) (written a memory) answered (changed 1 w buffer))
 
 -- a run of the record of an image
-pub run-done : (w : List ℕ) (t : Bool) → t ≡ flags_ok w → not t ≡ false → (budget : ℕ) (list display virt : List ℕ) (r : Ran)
+pub run-done : (w : List ℕ) (t : Bool) → t ≡ flags_ok w → t ≡ true → (budget : ℕ) (list display virt : List ℕ) (r : Ran)
     → r ≡ ran_by (run_call budget list (machine (board_of w) display virt)) → r ≡ run_image w budget list display virt
 unfolding run_image
 run-done w t judged good budget list display virt r is =

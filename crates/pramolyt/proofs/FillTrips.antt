@@ -3,7 +3,7 @@
 use mathlib.Core.Path.{◌≡◌, refl, ap, sym, ◌∙◌}
 use mathlib.Core.Bool.{Bool, true, false, cond, ◌||◌}
 use mathlib.Core.List.{List, ◌∷◌, ◌++◌, map, append-nil}
-use Prim.Native.Nat.{ℕ, zero, suc, ◌+◌, ◌*◌, ◌/◌, ◌%◌, ◌^◌, ◌<◌}
+use Prim.Native.Nat.{ℕ, zero, suc, ◌+◌, ◌*◌, ◌/◌, ◌%◌, ◌<◌}
 use native.Mathlib.Omega.{arith}
 use borrow.Author.Tests.{eqb-true, eqb-false, ltb-true, ltb-false}
 use lib.Dec.{eqb, ltb}
@@ -26,10 +26,6 @@ by-four P p (suc zero) h = p.1
 by-four P p (suc (suc zero)) h = p.2
 by-four P p (suc (suc (suc zero))) h = p.3
 by-four P p (suc (suc (suc (suc m)))) h = absurd (omega arith)
-
--- as the code takes it
-pub pixel-is : (x m : ℕ) → x < 4294967296 → m < 4 → x / 2 ^ (8 * m) % 256 ≡ pixel_in x m
-pixel-is x m small = by-four (λ m. x / 2 ^ (8 * m) % 256 ≡ pixel_in x m) (refl, refl, refl, omega arith) m
 
 -- pixel m of a word of the pixels p 0 to p 3
 pixel-word : (p : ℕ → ℕ) → ((m : ℕ) → p m < 256) → (m : ℕ) → m < 4 → pixel_in (word_of (p 0) (p 1) (p 2) (p 3)) m ≡ p m
@@ -68,22 +64,6 @@ as-four : (t : Tile) (i : ℕ) → let p : ℕ → ℕ = λ m. pixel_of t (4 * i
 as-four t i =
     let first : 4 * i ≡ 4 * i + 0 = omega arith in
     ap (λ (n : ℕ). word_of (pixel_of t n (i / 4)) (pixel_of t (4 * i + 1) (i / 4)) (pixel_of t (4 * i + 2) (i / 4)) (pixel_of t (4 * i + 3) (i / 4))) first
-
--- as the code reads it, from its row
-column : (i j : ℕ) → j < 4 → (4 * i + j) % 16 ≡ 4 * (i % 4) + j
-column i j h = by (4 * i + j) (i / 4) (4 * (i % 4) + j) (omega arith) (omega arith)
-  where
-    by : (x q r : ℕ) → x ≡ 16 * q + r → r < 16 → x % 16 ≡ r
-    by x q r e f = omega arith
-
-pub word-at : (t : Tile) (i : ℕ) → i < 32 →
-    let p = (get_or t.rows (i / 4) no_row).pixels in
-    let m = 4 * (i % 4) in
-    word_of (get_or p m 0) (get_or p (m + 1) 0) (get_or p (m + 2) 0) (get_or p (m + 3) 0) ≡ tile_word t i
-word-at t i h =
-    let row : i / 4 % 8 ≡ i / 4 = omega arith in
-    let first : 4 * i % 16 ≡ 4 * (i % 4) = ap (λ n. n % 16) (omega arith) ∙ column i 0 (omega arith) ∙ omega arith in
-    rw (row, first, column i 1 (omega arith), column i 2 (omega arith), column i 3 (omega arith))
 
 word-decoded : (w : List ℕ) (i : ℕ) → i < 32 → tile_word (tile_in w) i ≡ get_or w (tile_at + i) 0
 word-decoded w i p =

@@ -36,7 +36,7 @@ pub const WORDS: usize = 61;
 fn flag(b: bool) -> u32
     ensures { result ≡ flag_of b }
 {
-    if b { 1 } else { 0 }
+    u32::from(b)
 }
 
 // Whether each flag is 0 or 1, and zeros stand where no tile is held.
@@ -159,6 +159,7 @@ pub(crate) fn decode(w: [u32; WORDS]) -> Board
     }
 }
 
+// Kept: tried and slower; parts copied as arrays, by `copy_from_slice`, made `pramolyt_make` take fifteen times as long.
 fn put_sizes(w: [u32; WORDS], z: Sizes) -> [u32; WORDS]
     ensures { result ≡ put_words w sizes_at (sizes_words z) }
 {

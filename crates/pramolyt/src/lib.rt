@@ -4,20 +4,27 @@
 
 #![tactic(auto)]
 
-ghost use Rattle.std.specs.Prelude.{◌≡◌};
-ghost use Rattle.pramolyt.specs.Exports.{made, make_image, posted, post_image, changed, store_image, write_image, pictured, export_image, import_image, ran, run_image, feed_of, received, feed_image, filed, pack_file, unpack_file};
+ghost use Rattle.std.specs.Prelude.{◌≡◌, false, ◌-◌, ◌≤◌};
+ghost use Rattle.commands.specs.Hatching.{hatches};
+ghost use Rattle.board.specs.Runs.{added, run_call};
+ghost use Rattle.board.specs.Bare.{tiled};
+ghost use Rattle.pramolyt.specs.Exports.{made, make_image, posted, post_image, changed, store_image, write_image, pictured, export_image, import_image, ran, ran_by, run_image, feed_of, received, feed_image, filed, pack_file, unpack_file};
+ghost use Rattle.pramolyt.specs.Image.{bare_in, engine_in};
 ghost use Rattle.pramolyt.specs.Parts.{holds_in, HatchedImage};
 ghost use Rattle.feeds.specs.Feeds.{start_at};
 
 mod fill_image;
 mod image;
 
+use answers::{Heard, Part};
 use board::Board;
 use feeds::Feed;
 pub use image::WORDS;
 use image::{FILL, decode, decode_bare, encode, encode_bare, flags_ok};
-use packing::{pack, unpack};
+use packing::{Filed, pack, unpack};
+use std::ops::ControlFlow;
 
+// Kept: what an answer and a buffer are numbers for, and that each call stands by itself, here and in `pramolyt_c`: the C interface.
 pub fn pramolyt_make_r2(
     board: &mut [u32; WORDS],
     width: usize,
@@ -27,9 +34,8 @@ pub fn pramolyt_make_r2(
     ensures { made result board.new ≡ make_image width height entries }
 {
     let made = Board::make(width, height, entries);
-    let status = made.status;
     *board = encode(made.board);
-    status.number()
+    made.status.number()
 }
 
 pub fn pramolyt_post_r2(
@@ -48,10 +54,9 @@ pub fn pramolyt_post_r2(
     }
     let b = decode(w);
     let posted = b.post(list, start, count);
-    let status = posted.status;
     *board = encode(posted.board);
-    *place = status.place() as u64;
-    status.number()
+    *place = posted.status.place() as u64;
+    posted.status.number()
 }
 
 pub fn pramolyt_store_r2(
@@ -68,9 +73,8 @@ pub fn pramolyt_store_r2(
     }
     let b = decode(w);
     let stored = b.store(list, first, bytes);
-    let status = stored.status;
     *board = encode(stored.board);
-    status.number()
+    stored.status.number()
 }
 
 pub fn pramolyt_window_write_r2(
@@ -88,9 +92,8 @@ pub fn pramolyt_window_write_r2(
     }
     let b = decode(w);
     let written = b.window_write(number, offset, bytes, buffer);
-    let status = written.status;
     *board = encode(written.board);
-    status.number()
+    written.status.number()
 }
 
 pub fn pramolyt_export_r2(
@@ -109,10 +112,17 @@ pub fn pramolyt_export_r2(
     }
     let b = decode(w);
     let done = b.export(number, buffer, output);
-    let status = done.status;
     *board = encode(done.board);
-    *written = done.written as u64;
-    status.number()
+    match done.written {
+        Ok(bytes) => {
+            *written = bytes as u64;
+            0
+        }
+        Err(refusal) => {
+            *written = 0;
+            refusal.number()
+        }
+    }
 }
 
 pub fn pramolyt_import_r2(
@@ -129,9 +139,8 @@ pub fn pramolyt_import_r2(
     }
     let b = decode(w);
     let done = b.import(number, picture, buffer);
-    let status = done.status;
     *board = encode(done.board);
-    status.number()
+    done.status.number()
 }
 
 // Whether an image holds a tile, or a fill with one is under way.
@@ -139,16 +148,7 @@ fn holds(w: [u32; WORDS]) -> bool
     ensures { result ≡ holds_in w }
 {
     let b = decode_bare(w);
-    let e = b.engine;
-    (w[FILL] == 1) | e.hatches()
-}
-
-// The steps of a held fill: their number, the answer, and whether the run ends with them.
-#[derive(Clone, Copy)]
-struct Hatched {
-    steps: u64,
-    number: u32,
-    ended: bool,
+    (w[FILL] == 1) | b.engine.hatches()
 }
 
 // A fill that is held in an image, as many pixels as the budget allows.
@@ -158,17 +158,44 @@ fn hatch_image(
     list: &[u8],
     display: &mut [u8],
     virt: &mut [u8],
-) -> Hatched
+) -> Part
     ensures { HatchedImage budget list.now board.old display.old virt.old result board.new display.new virt.new }
 {
     let b = decode(*board);
     let ran = b.hatch(budget, list, display, virt);
-    let status = ran.status;
     *board = encode(ran.board);
-    Hatched {
-        steps: status.steps(),
-        number: status.number(),
-        ended: ran.ended,
+    ran.part
+}
+
+// The rest of a run of an image that holds no tile, after so many steps: the lists, and a fill with a tile that the budget cuts.
+fn run_lists(
+    board: &mut [u32; WORDS],
+    steps: &mut u64,
+    done: u64,
+    budget: u64,
+    list: &[u8],
+    display: &mut [u8],
+    virt: &mut [u8],
+) -> u32
+    requires few { done ≤ budget }
+    requires none { hatches (engine_in board.old) ≡ false }
+    ensures { ran result board.new steps.new display.new virt.new ≡ ran_by (added done (run_call (budget - done) list.now (tiled (bare_in board.old) display.old virt.old))) }
+{
+    let b = decode_bare(*board);
+    let ran = b.run(budget - done, list, display, virt);
+    match ran.part {
+        ControlFlow::Break(status) => {
+            *board = encode_bare(ran.bare);
+            *steps = done + status.steps();
+            status.number()
+        }
+        ControlFlow::Continue(more) => {
+            let k = done + more;
+            *board = encode(ran.bare.held(display, virt));
+            let last = hatch_image(board, budget - k, list, display, virt);
+            *steps = k + last.steps();
+            last.number()
+        }
     }
 }
 
@@ -187,29 +214,16 @@ pub fn pramolyt_run_r2(
         *steps = 0;
         return 1;
     }
-    let mut done: u64 = 0;
-    if holds(w) {
-        let h = hatch_image(board, budget, list, display, virt);
-        if h.ended {
-            *steps = h.steps;
-            return h.number;
+    if !holds(w) {
+        return run_lists(board, steps, 0, budget, list, display, virt);
+    }
+    match hatch_image(board, budget, list, display, virt) {
+        ControlFlow::Break(status) => {
+            *steps = status.steps();
+            status.number()
         }
-        done = h.steps;
+        ControlFlow::Continue(done) => run_lists(board, steps, done, budget, list, display, virt),
     }
-    let b = decode_bare(*board);
-    let ran = b.run(budget - done, list, display, virt);
-    let after = ran.bare;
-    let status = ran.status;
-    let k = done + status.steps();
-    if ran.cut {
-        *board = encode(after.held(display, virt));
-        let h = hatch_image(board, budget - k, list, display, virt);
-        *steps = k + h.steps;
-        return h.number;
-    }
-    *board = encode_bare(after);
-    *steps = k;
-    status.number()
 }
 
 pub fn pramolyt_feed_start_fields_r2(
@@ -248,14 +262,13 @@ pub fn pramolyt_feed_fields_r2(
         count: *count,
     };
     let received = b.feed(feed, list, piece);
-    let status = received.status;
     let after = received.feed;
     let bytes = after.held;
     *board = encode(received.board);
     *next = after.next;
     *held = bytes;
     *count = after.count;
-    status.number()
+    received.status.number()
 }
 
 pub fn pramolyt_pack_r2(written: &mut u64, place: &mut u64, input: &[u8], output: &mut [u8]) -> u32

@@ -21,14 +21,12 @@ pub fn new_byte(code: u8, source: u8, old: u8, mask: u8) -> u8
     ensures { result ≡ new_byte code source old mask }
 {
     let mut new: u8 = 0;
-    let mut pair: u8 = 0;
-    while pair < 4 {
+    for pair in 0..4u8 {
         let s = pair / 2;
         let d = pair % 2;
         let new_bit = (code >> (3 - 2 * s - d)) % 2;
         let here = places(source, s) & places(old, d);
         new |= new_bit * 255 & here;
-        pair += 1;
     }
     (new & mask) | (old & (mask ^ 255))
 }

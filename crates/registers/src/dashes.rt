@@ -1,5 +1,5 @@
 // The line pattern's state.
-ghost use Rattle.std.specs.Prelude.{◌≡◌, ◌-◌, min};
+ghost use Rattle.std.specs.Prelude.{◌≡◌};
 ghost use Rattle.entries.specs.Fields.{pattern_control_of};
 ghost use Rattle.registers.specs.Patterns.{start_of, pattern_bit, next_of, moves_of, in_range};
 
@@ -10,20 +10,6 @@ use entries::{PatternControl, pattern_control_of};
 pub struct Pattern {
     pub place: u32,
     pub repeat: u32,
-}
-
-// n - 1, or 0.
-fn last_below(n: u32) -> u64
-    ensures { result ≡ n - 1 }
-{
-    if n == 0 { 0 } else { (n - 1) as u64 }
-}
-
-fn lesser(a: u32, b: u64) -> u64
-    ensures { result ≡ min a b }
-{
-    let wide = a as u64;
-    if wide < b { wide } else { b }
 }
 
 impl Pattern {
@@ -38,6 +24,7 @@ impl Pattern {
     }
 
     // The bit of LPAT that the state stands at.
+    #[tactic(auto, using(crate::proofs::Moves::bit_past), unfolding(crate::specs::Patterns::pattern_bit))]
     pub fn bit(self, lpat: u32) -> bool
         ensures { result ≡ pattern_bit lpat self }
     {
@@ -48,14 +35,15 @@ impl Pattern {
     }
 
     // The state after one more pixel.
+    #[tactic(auto, unfolding(crate::specs::Patterns::next_of))]
     pub fn next(self, control: PatternControl) -> Pattern
         ensures { result ≡ next_of control self }
     {
         let repeat = self.repeat as u64 + 1;
         if repeat < control.scale as u64 {
             return Pattern {
-                place: self.place,
                 repeat: self.repeat + 1,
+                ..self
             };
         }
         let place = self.place as u64 + 1;
@@ -78,18 +66,15 @@ impl Pattern {
         if n == 0 {
             return self;
         }
-        let last_repeat = last_below(control.scale);
-        let gone = lesser(self.repeat, last_repeat) + n as u64;
+        let last_repeat = control.scale.saturating_sub(1) as u64;
+        let gone = (self.repeat as u64).min(last_repeat) + n as u64;
         let repeat = (gone % (last_repeat + 1)) as u32;
         let turns = gone / (last_repeat + 1);
         if turns == 0 {
-            return Pattern {
-                place: self.place,
-                repeat,
-            };
+            return Pattern { repeat, ..self };
         }
-        let last_place = last_below(control.length);
-        let place = lesser(self.place, last_place) + turns;
+        let last_place = control.length.saturating_sub(1) as u64;
+        let place = (self.place as u64).min(last_place) + turns;
         Pattern {
             place: (place % (last_place + 1)) as u32,
             repeat,
@@ -97,6 +82,7 @@ impl Pattern {
     }
 
     // Whether place and repeat are below length and scale.
+    #[tactic(auto, unfolding(crate::specs::Patterns::in_range))]
     pub fn in_range(self, control: PatternControl) -> bool
         ensures { result ≡ in_range control self }
     {
@@ -104,16 +90,9 @@ impl Pattern {
     }
 }
 
-// The state after one more pixel, of the pattern that PCTRL describes.
-fn next_by(p: Pattern, pctrl: u32) -> Pattern
-    ensures { result ≡ next_of (pattern_control_of pctrl) p }
-{
-    p.next(pattern_control_of(pctrl))
-}
-
-// The same of a state that is lent.
+// One more pixel, of the pattern that PCTRL describes.
 pub fn advance(p: &mut Pattern, pctrl: u32)
     ensures { p.new ≡ next_of (pattern_control_of pctrl) p.old }
 {
-    *p = next_by(*p, pctrl);
+    *p = p.next(pattern_control_of(pctrl));
 }

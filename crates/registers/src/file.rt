@@ -44,66 +44,33 @@ impl Registers {
     }
 
     // With a word in one register; there are none from number 13 on.
+    // Kept: the register by its number, since every number is answered (`written_of`).
+    #[tactic(auto, unfolding(crate::specs::Registers::written_of))]
     pub fn written(self, register: u32, word: u32) -> Registers
         ensures { result ≡ written_of self register word }
     {
         let mut g = self;
-        if register == 0 {
-            g.cmd = word;
-            return g;
-        }
-        if register == 1 {
-            g.fore = word;
-            return g;
-        }
-        if register == 2 {
-            g.back = word;
-            return g;
-        }
-        if register == 3 {
-            g.mask = word;
-            return g;
-        }
-        if register == 4 {
-            g.key = word;
-            return g;
-        }
-        if register == 5 {
-            g.lpat = word;
-            return g;
-        }
-        if register == 6 {
-            g.pctrl = word;
-            return g;
-        }
-        if register == 7 {
-            g.clptl = word;
-            return g;
-        }
-        if register == 8 {
-            g.clpbr = word;
-            return g;
-        }
-        if register == 9 {
-            g.xy0 = word;
-            return g;
-        }
-        if register == 10 {
-            g.xy2 = word;
-            return g;
-        }
-        if register == 11 {
-            g.xy3 = word;
-            return g;
-        }
-        if register == 12 {
-            g.xy1 = word;
-            return g;
+        match register {
+            0 => g.cmd = word,
+            1 => g.fore = word,
+            2 => g.back = word,
+            3 => g.mask = word,
+            4 => g.key = word,
+            5 => g.lpat = word,
+            6 => g.pctrl = word,
+            7 => g.clptl = word,
+            8 => g.clpbr = word,
+            9 => g.xy0 = word,
+            10 => g.xy2 = word,
+            11 => g.xy3 = word,
+            12 => g.xy1 = word,
+            _ => {}
         }
         g
     }
 
     // Whether every register holds a legal word.
+    #[tactic(auto, unfolding(crate::specs::Registers::registers_legal))]
     pub fn legal(self) -> bool
         ensures { result ≡ registers_legal self }
     {

@@ -1,3 +1,4 @@
+pub mod Copies
 pub mod Orders
 pub mod Within
 pub mod Parts

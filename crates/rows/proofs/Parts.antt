@@ -3,6 +3,7 @@
 use mathlib.Core.Path.{◌≡◌, refl, ap, sym, ◌∙◌}
 use mathlib.Core.List.{List}
 use mathlib.Core.Logic.{◌⊎◌, inl, inr, ⊎_elim}
+use mathlib.Core.Bool.{Bool, true, false, cond}
 use Prim.Native.Nat.{ℕ, ◌+◌, ◌-◌, ◌≤◌, ◌<◌}
 use native.Mathlib.Omega.{arith}
 use borrow.Author.Tests.{leb-true, leb-false}
@@ -13,10 +14,10 @@ use Rattle.lemmas.proofs.Booleans.{by_cases}
 use Rattle.raster.specs.Selectors.{drawn}
 use Rattle.raster.specs.declared.Pen.{Pen}
 use Rattle.lemmas.specs.Sweeps.{sweep}
-use Rattle.rows.specs.Rows.{filled, copied, moved, moved_back}
+use Rattle.rows.specs.Rows.{filled, copied, shifted, Clear, Ends}
 use Rattle.lemmas.proofs.Sweeps.{sweep-length, sweep-stays, sweep-wrote}
 use Rattle.lemmas.proofs.Orders.{right}
-use Rattle.rows.proofs.Within.{moved-aside, moved-back-aside}
+use Rattle.rows.proofs.Within.{clear-copied, clear-part}
 
 -- whether i is one of n places from `at` on
 inside : {A : Type 0} (at n i : ℕ) → (at ≤ i → i < at + n → A) → ((i < at) ⊎ (at + n ≤ i) → A) → A
@@ -100,20 +101,6 @@ filled-twice x n k b l m r at fits small enough part =
     parts (λ j d. x) (λ j d. x) (λ j d. x) n 0 k (n - b) b l m r at at (at + (n - b)) fits (omega arith) refl (omega arith) (omega arith)
     (λ i v c. ⊎_elim (λ x. (omega arith, omega arith)) (λ x. (omega arith, omega arith)) c) (λ j v. refl) (λ j d v. refl)
 
--- source bytes: the first b pixels and the last b, which were kept aside in t
-pub copied-twice : (n b : ℕ) (l m w t r : List ℕ) (at : ℕ) (source : List ℕ) (from : ℕ) → at + n ≤ length l → b ≤ n → n ≤ b + b → b ≤ length w
-    → m ≡ copied (λ s d. s) b l at source from → t ≡ copied (λ s d. s) b w 0 source (from + (n - b))
-    → r ≡ copied (λ s d. s) b m (at + (n - b)) t 0 → r ≡ copied (λ s d. s) n l at source from
-copied-twice n b l m w t r at source from fits small enough room em et er =
-    parts (λ j d. get_or source (from + j) 0) (λ j d. get_or source (from + j) 0) (λ j d. get_or t (0 + j) 0) n 0 b (n - b) b l m r at at (at + (n - b)) fits
-    (omega arith) refl (omega arith) (omega arith)
-    (λ i v c. ⊎_elim (λ x. (omega arith, omega arith)) (λ x. (omega arith, omega arith)) c)
-    (λ j v. let e : from + j ≡ from + (0 + j) = omega arith in rw e)
-    (λ j d v.
-    let e : from + (n - b) + j ≡ from + (n - b + j) = omega arith in
-    kept (λ j d. get_or source (from + (n - b) + j) 0) b w t room et j v ∙ ap (λ k. get_or source k 0) e)
-    em er
-
 -- k pixels of a row or more, and its last b aside
 module _ (n k z b : ℕ) (l m w s t r : List ℕ) (at : ℕ) (fits : at + n ≤ length l) (whole : z + b ≡ n) (enough : z ≤ k) (part : k ≤ n)
     (room : b ≤ length w) (es : s ≡ copied (λ s d. s) b w 0 l (at + z)) (er : r ≡ copied (λ s d. s) b m (at + z) t 0) where
@@ -134,79 +121,65 @@ module _ (n k z b : ℕ) (l m w s t r : List ℕ) (at : ℕ) (fits : at + n ≤ 
       (λ j d. let e : from + j ≡ from + (0 + j) = omega arith in rw e)
       (λ j d v. let e : from + z + j ≡ from + (z + j) = omega arith in rw e)
 
-  pub moved-last : (f : ℕ → ℕ → ℕ) (from : ℕ) → (at ≤ from) ⊎ (from + n ≤ at) → m ≡ moved f k l at from
-      → t ≡ copied f b s 0 l (from + z) → r ≡ moved f n l at from
-  moved-last f from c em et =
-      copied-last f l from (em ∙ moved-aside f k l at from (⊎_elim (λ x. inl x) (λ x. inr (omega arith)) c)) et
-      ∙ sym (moved-aside f n l at from c)
+-- within one buffer, where no visit reads what another wrote: k pixels from place y on, and b from place z on aside
+module _ (f : ℕ → ℕ → ℕ) (n k b : ℕ) (l m w s t r : List ℕ) (at from : ℕ) (fits : at + n ≤ length l) (small : b ≤ n) (enough : n ≤ k + b)
+    (part : k ≤ n) (room : b ≤ length w) where
+  beside-last : (y z : ℕ) → y + k ≤ n → z + b ≤ n → ((i : ℕ) → i < n → (i < y) ⊎ (y + k ≤ i) → (z ≤ i) × (i < z + b))
+      → m ≡ copied f k l (at + y) l (from + y) → s ≡ copied (λ s d. s) b w 0 l (at + z) → t ≡ copied f b s 0 l (from + z)
+      → r ≡ copied (λ s d. s) b m (at + z) t 0 → r ≡ copied f n l at l from
+  beside-last y z first second cover em es et er =
+      parts (λ j. f (get_or l (from + j) 0)) (λ j. f (get_or l (from + y + j) 0)) (λ j d. get_or t (0 + j) 0) n y k z b l m r at (at + y) (at + z)
+      fits refl refl first second cover
+      (λ j v. let e : from + y + j ≡ from + (y + j) = omega arith in rw e)
+      (aside (λ j. f (get_or l (from + j) 0)) (λ j. f (get_or l (from + z + j) 0)) z b l w s t (at + z) room
+      (λ j d v. let e : from + z + j ≡ from + (z + j) = omega arith in rw e) es et)
+      em er
 
--- the same from right to left
-pub moved-back-last : (f : ℕ → ℕ → ℕ) (n k b : ℕ) (l m w s t r : List ℕ) (at from : ℕ) → at ≤ length l → n ≤ at → n ≤ from → b ≤ n
-    → n ≤ k + b → k ≤ n → b ≤ length w → (from ≤ at) ⊎ (at + n ≤ from) → m ≡ moved_back f k l at from
-    → s ≡ copied (λ s d. s) b w 0 l (at - n) → t ≡ copied f b s 0 l (from - n) → r ≡ copied (λ s d. s) b m (at - n) t 0
-    → r ≡ moved_back f n l at from
-moved-back-last f n k b l m w s t r at from fits x y small enough part room c em es et er =
-    let row : ℕ → ℕ → ℕ = (λ j. f (get_or l (from - n + j) 0)) in
-    parts row (λ j. f (get_or l (from - k + j) 0)) (λ j d. get_or t (0 + j) 0) n (n - k) k 0 b l m r (at - n) (at - k) (at - n)
-    (omega arith) (omega arith) (omega arith) (omega arith) (omega arith)
-    (λ i v c. ⊎_elim (λ x. (omega arith, omega arith)) (λ x. (omega arith, omega arith)) c)
-    (λ j v. let e : from - k + j ≡ from - n + (n - k + j) = omega arith in rw e)
-    (aside row (λ j. f (get_or l (from - n + j) 0)) 0 b l w s t (at - n) room
-    (λ j d v. let e : from - n + j ≡ from - n + (0 + j) = omega arith in rw e) es et)
-    (em ∙ moved-back-aside f k l at from (⊎_elim (λ x. inl x) (λ x. inr (omega arith)) c) (omega arith) (omega arith)) er
-    ∙ sym (moved-back-aside f n l at from c x y)
+  pub shifted-last : (back : Bool) (y z : ℕ) → y ≡ cond back (n - k) 0 → z ≡ cond back 0 (n - b) → Clear back at from n
+      → m ≡ shifted back f k l (at + y) (from + y) → s ≡ copied (λ s d. s) b w 0 l (at + z) → t ≡ copied f b s 0 l (from + z)
+      → r ≡ copied (λ s d. s) b m (at + z) t 0 → r ≡ shifted back f n l at from
+  shifted-last back y z ey ez c em es et er =
+      let place = by back ey ez in
+      beside-last y z place.0 place.1 place.2
+      (em ∙ clear-copied back f k l (at + y) (from + y) (clear-part back at from n y k part c)) es et er
+      ∙ sym (clear-copied back f n l at from c)
+    where
+      by : (back : Bool) → y ≡ cond back (n - k) 0 → z ≡ cond back 0 (n - b)
+          → (y + k ≤ n) × (z + b ≤ n) × ((i : ℕ) → i < n → (i < y) ⊎ (y + k ≤ i) → (z ≤ i) × (i < z + b))
+      by true ey ez = (omega arith, omega arith, λ i p c. ⊎_elim (λ x. (omega arith, omega arith)) (λ x. (omega arith, omega arith)) c)
+      by false ey ez = (omega arith, omega arith, λ i p c. ⊎_elim (λ x. (omega arith, omega arith)) (λ x. (omega arith, omega arith)) c)
 
--- k pixels of a row or more, and then its last b, where no new byte depends on the old one
-pub last-over : (f g h : ℕ → ℕ → ℕ) (n k z b : ℕ) (l m r : List ℕ) (at : ℕ) → at + n ≤ length l → z + b ≡ n → z ≤ k → k ≤ n
-    → ((j d e : ℕ) → f j d ≡ f j e) → ((j d : ℕ) → h j d ≡ f (0 + j) d) → ((j d : ℕ) → j < b → g j d ≡ f (z + j) d)
-    → m ≡ right h k l at → r ≡ right g b m (at + z) → r ≡ right f n l at
-last-over f g h n k z b l m r at fits whole enough part alone early late =
-    parts f h g n 0 k z b l m r at at (at + z) fits (omega arith) refl (omega arith) (omega arith)
-    (λ i v c. ⊎_elim (λ x. (omega arith, omega arith)) (λ x. (omega arith, omega arith)) c) (λ j v. early j (get_or l (at + j) 0))
-    (λ j d v. late j d v ∙ alone (z + j) d (get_or l (at + z + j) 0))
+-- the first eight bytes of a row and its last eight, side by side
+pub ends-beside : (w a b source : List ℕ) (from n : ℕ) → 16 ≤ length w → a ≡ copied (λ s d. s) 8 w 0 source from
+    → b ≡ copied (λ s d. s) 8 a 8 source (from + (n - 8)) → Ends source from n b
+ends-beside w a b source from n room ea eb =
+    let first : ℕ → ℕ → ℕ = (λ j d. get_or source (from + j) 0) in
+    let second : ℕ → ℕ → ℕ = (λ j d. get_or source (from + (n - 8) + j) 0) in
+    let long : length a ≡ length w = ap length ea ∙ right-length first 8 w 0 in
+    record {
+      first = λ j v.
+          let here : j - 0 ≡ j = omega arith in
+          ap (λ b. get_or b j 0) eb ∙ right-out second 8 a 8 j (inl v) ∙ ap (λ a. get_or a j 0) ea
+          ∙ rw here at (right-in first 8 w 0 (omega arith) j (omega arith) (omega arith));
+      final = λ j v.
+          let there : 8 + j - 8 ≡ j = omega arith in
+          ap (λ b. get_or b (8 + j) 0) eb ∙ rw there at (right-in second 8 a 8 (omega arith) (8 + j) (omega arith) (omega arith));
+    }
 
--- h bytes from x on and h from y on, side by side
-beside : (h : ℕ) (w a b source : List ℕ) (x y : ℕ) → h + h ≤ length w → a ≡ copied (λ s d. s) h w 0 source x → b ≡ copied (λ s d. s) h a h source y
-    → (j : ℕ) → j < h → (get_or b j 0 ≡ get_or source (x + j) 0) × (get_or b (h + j) 0 ≡ get_or source (y + j) 0)
-beside h w a b source x y room ea eb j v =
-    let first : ℕ → ℕ → ℕ = (λ j d. get_or source (x + j) 0) in
-    let second : ℕ → ℕ → ℕ = (λ j d. get_or source (y + j) 0) in
-    let long : length a ≡ length w = ap length ea ∙ right-length first h w 0 in
-    let here : j - 0 ≡ j = omega arith in
-    let there : h + j - h ≡ j = omega arith in (
-      ap (λ b. get_or b j 0) eb ∙ right-out second h a h j (inl v) ∙ ap (λ a. get_or a j 0) ea
-          ∙ rw here at (right-in first h w 0 (omega arith) j (omega arith) (omega arith)),
-      ap (λ b. get_or b (h + j) 0) eb ∙ rw there at (right-in second h a h (omega arith) (h + j) (omega arith) (omega arith)),
-    )
-
--- the last h pixels end where the row does, in a buffer as long as before
-pub last-inside : (h n at len own : ℕ) → h ≤ n → at + n ≤ len → own ≡ len → at + (n - h) + h ≤ own
-last-inside h n at len own small fits e = omega arith
-
--- h to 2h pixels, drawn side by side: the first h and the last h, on what stood there
-pub mixed-beside : (f : ℕ → ℕ → ℕ) (h n : ℕ) (l : List ℕ) (at : ℕ) (source : List ℕ) (from : ℕ) (v a b w o q t m r : List ℕ) → h ≤ n → n ≤ h + h
-    → at + n ≤ length l → h + h ≤ length v → h + h ≤ length w → a ≡ copied (λ s d. s) h v 0 source from
-    → b ≡ copied (λ s d. s) h a h source (from + (n - h)) → o ≡ copied (λ s d. s) h w 0 l at → q ≡ copied (λ s d. s) h o h l (at + (n - h))
-    → t ≡ copied f (h + h) q 0 b 0 → m ≡ copied (λ s d. s) h l at t 0 → r ≡ copied (λ s d. s) h m (at + (n - h)) t h
-    → r ≡ copied f n l at source from
-mixed-beside f h n l at source from v a b w o q t m r small enough fits room space ea eb eo eq et em er =
-    let z = n - h in
-    let long : length q ≡ length w =
-    ap length eq ∙ right-length (λ j d. get_or l (at + z + j) 0) h o h ∙ ap length eo ∙ right-length (λ j d. get_or l (at + j) 0) h w 0 in
-    let new : (i : ℕ) → i < h + h → get_or t i 0 ≡ f (get_or b i 0) (get_or q i 0) = (λ i y.
+-- 8 to 16 pixels, drawn side by side from the ends p of the source on the ends o of what stood there
+pub ends-mixed : (f : ℕ → ℕ → ℕ) (n : ℕ) (l : List ℕ) (at : ℕ) (source : List ℕ) (from : ℕ) (p o t m r : List ℕ) → 8 ≤ n → n ≤ 16
+    → at + n ≤ length l → length o ≡ 16 → Ends source from n p → Ends l at n o → t ≡ copied f 16 o 0 p 0
+    → m ≡ copied (λ s d. s) 8 l at t 0 → r ≡ copied (λ s d. s) 8 m (at + (n - 8)) t 8 → r ≡ copied f n l at source from
+ends-mixed f n l at source from p o t m r small enough fits long ep eo et em er =
+    let z = n - 8 in
+    let new : (i : ℕ) → i < 16 → get_or t i 0 ≡ f (get_or p i 0) (get_or o i 0) = (λ i y.
     let e : i - 0 ≡ i = omega arith in
     let g : 0 + i ≡ i = omega arith in
-    ap (λ t. get_or t i 0) et ∙ rw (e, g) at (right-in (λ k. f (get_or b (0 + k) 0)) (h + h) q 0 (omega arith) i (omega arith) (omega arith))) in
-    parts (λ j. f (get_or source (from + j) 0)) (λ j d. get_or t (0 + j) 0) (λ j d. get_or t (h + j) 0) n 0 h z h l m r at at (at + z) fits (omega arith) refl
+    ap (λ t. get_or t i 0) et ∙ rw (e, g) at (right-in (λ k. f (get_or p (0 + k) 0)) 16 o 0 (omega arith) i (omega arith) (omega arith))) in
+    parts (λ j. f (get_or source (from + j) 0)) (λ j d. get_or t (0 + j) 0) (λ j d. get_or t (8 + j) 0) n 0 8 z 8 l m r at at (at + z) fits (omega arith) refl
     (omega arith) (omega arith) (λ i v c. ⊎_elim (λ x. (omega arith, omega arith)) (λ x. (omega arith, omega arith)) c)
-    (λ j y.
-    let p = beside h v a b source from (from + z) room ea eb j y in
-    let d = beside h w o q l at (at + z) space eo eq j y in
-    let e : 0 + j ≡ j = omega arith in
-    rw e (new j (omega arith) ∙ rw (p.0, d.0)))
+    (λ j y. let e : 0 + j ≡ j = omega arith in rw e (new j (omega arith) ∙ rw (ep.first j y, eo.first j y)))
     (λ j d y.
-    let p = beside h v a b source from (from + z) room ea eb j y in
-    let d = beside h w o q l at (at + z) space eo eq j y in
     let e : from + z + j ≡ from + (z + j) = omega arith in
-    new (h + j) (omega arith) ∙ rw (p.1, d.1, e))
+    new (8 + j) (omega arith) ∙ rw (ep.final j y, eo.final j y, e))
     em er

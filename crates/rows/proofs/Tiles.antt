@@ -6,35 +6,9 @@ use Prim.Native.Nat.{ℕ, zero, suc, ◌+◌, ◌-◌, ◌*◌, ◌/◌, ◌%◌
 use native.Mathlib.Omega.{arith}
 use lib.ListN.{length, get_or}
 use Rattle.rows.specs.Rows.{copied, tiled, Twice, Periodic}
-use Rattle.lemmas.proofs.Sweeps.{sweep-length, sweep-agree, sweep-join}
+use Rattle.lemmas.proofs.Sweeps.{sweep-agree, sweep-join}
 use Rattle.lemmas.proofs.Orders.{right}
-use Rattle.rows.proofs.Parts.{kept, copied-last, last-aside, last-over}
-use Rattle.rows.proofs.Within.{copied-kept}
-
--- the new byte does not depend on the old one
-abbrev pub Covers : (ℕ → ℕ → ℕ) → Type 0
-Covers f = (s d e : ℕ) → f s d ≡ f s e
-
--- the first b pixels of a row and its last b, from source bytes that were kept first
-module _ (f : ℕ → ℕ → ℕ) (b n : ℕ) (l : List ℕ) (at : ℕ) (source : List ℕ) (from : ℕ) (fits : at + n ≤ length l) (low : b ≤ n)
-    (high : n ≤ b + b) (x y head tail m r : List ℕ) (hx : b ≤ length x) (hy : b ≤ length y)
-    (eh : head ≡ copied (λ s d. s) b x 0 source from)
-    (et : tail ≡ copied (λ s d. s) b y 0 source (from + (n - b))) (em : m ≡ copied f b l at head 0) where
-  pub covered-twice : Covers f → r ≡ copied f b m (at + (n - b)) tail 0 → r ≡ copied f n l at source from
-  covered-twice alone er =
-      last-over (λ j. f (get_or source (from + j) 0)) (λ j. f (get_or source (from + (n - b) + j) 0)) (λ j. f (get_or source (from + j) 0))
-      n b (n - b) b l m r at fits (omega arith) (omega arith) low (λ j. alone (get_or source (from + j) 0))
-      (λ j d. let e : from + j ≡ from + (0 + j) = omega arith in rw e)
-      (λ j d v. let e : from + (n - b) + j ≡ from + (n - b + j) = omega arith in rw e)
-      (copied-kept f b l at source from x head m hx eh em)
-      (copied-kept f b m (at + (n - b)) source (from + (n - b)) y tail r hy et er)
-
-  pub mixed-twice : (w s t : List ℕ) → b ≤ length w → s ≡ copied (λ s d. s) b w 0 l (at + (n - b)) → t ≡ copied f b s 0 tail 0
-      → r ≡ copied (λ s d. s) b m (at + (n - b)) t 0 → r ≡ copied f n l at source from
-  mixed-twice w s t hw es ea er =
-      copied-last n b (n - b) b l m w s t r at fits (omega arith) (omega arith) low hw es er f source from
-      (copied-kept f b l at source from x head m hx eh em)
-      (copied-kept f b s 0 source (from + (n - b)) y tail t hy et ea)
+use Rattle.rows.proofs.Parts.{kept, last-aside}
 
 -- b pixels more
 right-more : (h g : ℕ → ℕ → ℕ) (a b n : ℕ) (l m r : List ℕ) (at u : ℕ) → a + b ≡ n → u ≡ at + a → ((j d : ℕ) → j < b → g j d ≡ h (a + j) d)
@@ -71,10 +45,6 @@ pub record Begun (f : ℕ → ℕ → ℕ) (n : ℕ) (l : List ℕ) (at : ℕ) (
   pub enough : n - 16 ≤ k
   pub part : k ≤ n
   pub done : r ≡ again f k l at pixels
-
-pub begun-length : (f : ℕ → ℕ → ℕ) (n : ℕ) (l : List ℕ) (at : ℕ) (pixels r : List ℕ) → Begun f n l at pixels r → length r ≡ length l
-begun-length f n l at pixels r b =
-    ap length b.done ∙ sweep-length (λ k. at + k) (λ k m. f (get_or pixels (k % 16) 0) (get_or m (at + k) 0)) l b.k
 
 module _ (f : ℕ → ℕ → ℕ) (n : ℕ) (l : List ℕ) (at : ℕ) (pixels m : List ℕ) (em : m ≡ again f (n / 32 * 32) l at pixels) where
   pub begun-blocks : n - 16 ≤ n / 32 * 32 → Begun f n l at pixels m
@@ -127,12 +97,6 @@ module _ (f : ℕ → ℕ → ℕ) (n : ℕ) (l : List ℕ) (at : ℕ) (source :
       ap (λ (s : ℕ). f s d)
       (kept (λ j d. get_or source (last + j) 0) 16 x tail hx et j v ∙ p.final j v
       ∙ round pixel p.period (n + j) (n - 16 + j) (omega arith))
-
-  pub covered-long : Covers f → r ≡ copied f 16 m (at + (n - 16)) tail 0
-      → (pixel : ℕ → ℕ) → Periodic pixel n source from last → r ≡ tiled f n l at pixel
-  covered-long alone er pixel p =
-      last-over (λ j. f (pixel j)) (λ j. f (get_or tail (0 + j) 0)) (λ j. f (get_or pixels (j % 16) 0)) n b.k (n - 16) 16 l m r at fits
-      (omega arith) b.enough b.part (λ j. alone (pixel j)) (early pixel p) (late pixel p) b.done er
 
   pub mixed-long : (y s t : List ℕ) → 16 ≤ length y → s ≡ copied (λ s d. s) 16 y 0 l (at + (n - 16)) → t ≡ copied f 16 s 0 tail 0
       → r ≡ copied (λ s d. s) 16 m (at + (n - 16)) t 0 → (pixel : ℕ → ℕ) → Periodic pixel n source from last → r ≡ tiled f n l at pixel

@@ -1,89 +1,62 @@
 // Rows one byte after the other.
-ghost use Rattle.std.specs.Prelude.{◌≡◌, ◌⊎◌, true, List, ℕ, ◌+◌, ◌≤◌, length};
+ghost use Rattle.std.specs.Prelude.{◌≡◌, true, false, cond, ℕ, ◌+◌};
 ghost use Rattle.lemmas.specs.Sweeps.{sweep};
-ghost use Rattle.rows.specs.Rows.{mixed, filled, copied, moved, moved_back, shifted};
+ghost use Rattle.rows.specs.Rows.{filled, copied, shifted, Fits, Clear};
 
-use crate::Mix;
+use crate::inks::{Ink, Unmixed};
 use raster::Pen;
 
-// The new byte. Where the source byte is KEY none of its bits are taken: with no branch, and no store left out, the loops below are
-// vectorised, and loops of fixed length too.
-fn mix_byte(mix: Mix, s: u8, d: u8) -> u8
-    ensures { result ≡ mixed mix s d }
-{
-    let q = mix.selectors;
-    let new = (d & ((s & q.both) ^ q.old)) ^ ((s & q.source) ^ q.none);
-    let mask: u8 = if mix.keyed & (s == mix.key) { 0 } else { 255 };
-    d ^ ((d ^ new) & mask)
-}
-
-// The same by a branch, for rows that read what they wrote: there each byte waits for the one before.
-fn mix_next(mix: Mix, s: u8, d: u8) -> u8
-    ensures { result ≡ mixed mix s d }
-{
-    let q = mix.selectors;
-    let new = (d & ((s & q.both) ^ q.old)) ^ ((s & q.source) ^ q.none);
-    if mix.keyed & (s == mix.key) { d } else { new }
-}
-
 // Each byte becomes x.
+// Kept: tried and slower. `fill` stores the last byte by itself, and rows of 32 to 256 pixels take a fifth to two fifths longer.
 pub(crate) fn fill_bytes(buffer: &mut [u8], at: usize, n: usize, x: u8)
-    requires { at + n ≤ length buffer.old }
+    requires { Fits buffer.old at n }
     ensures { buffer.new ≡ sweep (λ k. at + k) (λ k m. x) n buffer.old }
 {
-    let mut k: usize = 0;
-    while k < n {
+    for k in 0..n {
         buffer[at + k] = x;
-        k += 1;
     }
 }
 
 // Each byte is drawn with the pen.
 pub(crate) fn draw_bytes(buffer: &mut [u8], at: usize, n: usize, pen: Pen)
-    requires { at + n ≤ length buffer.old }
+    requires { Fits buffer.old at n }
     ensures { buffer.new ≡ filled pen n buffer.old at }
 {
-    let mut k: usize = 0;
-    while k < n {
+    for k in 0..n {
         buffer[at + k] = pen.draw(buffer[at + k]);
-        k += 1;
     }
 }
 
-// The source bytes as they are.
-pub(crate) fn copy_bytes(buffer: &mut [u8], at: usize, source: &[u8], from: usize, n: usize)
-    requires { (at + n ≤ length buffer.old) × (from + n ≤ length source.now) }
-    ensures { buffer.new ≡ copied (λ s d. s) n buffer.old at source.now from }
-{
-    let mut k: usize = 0;
-    while k < n {
-        buffer[at + k] = source[from + k];
-        k += 1;
-    }
-}
-
-// The source bytes mixed with the old ones.
-pub(crate) fn mix_bytes(
+// New bytes of the source bytes and the old ones.
+pub(crate) fn mix_bytes<I: Ink>(
     buffer: &mut [u8],
     at: usize,
     source: &[u8],
     from: usize,
     n: usize,
-    mix: Mix,
+    ink: I,
 )
-    requires { (at + n ≤ length buffer.old) × (from + n ≤ length source.now) }
-    ensures { buffer.new ≡ copied (mixed mix) n buffer.old at source.now from }
+    requires { Fits buffer.old at n × Fits source.now from n }
+    ensures { buffer.new ≡ copied (I.byte ink) n buffer.old at source.now from }
 {
-    let mut k: usize = 0;
-    while k < n {
-        buffer[at + k] = mix_byte(mix, source[from + k], buffer[at + k]);
-        k += 1;
+    for k in 0..n {
+        buffer[at + k] = ink.byte(source[from + k], buffer[at + k]);
     }
 }
 
+// The source bytes as they are.
+// Kept: tried and slower. `copy_from_slice` makes a number of 8 bytes, which a loop after it takes apart: rows of 8 to 16 pixels that
+// are drawn take over three times as long.
+pub(crate) fn copy_bytes(buffer: &mut [u8], at: usize, source: &[u8], from: usize, n: usize)
+    requires { Fits buffer.old at n × Fits source.now from n }
+    ensures { buffer.new ≡ copied (λ s d. s) n buffer.old at source.now from }
+{
+    mix_bytes(buffer, at, source, from, n, Unmixed);
+}
+
 // True only where n pixels may be read before the first of them is written.
-pub(crate) fn is_clear(at: usize, from: usize, n: usize) -> bool
-    ensures { result ≡ true → (at ≤ from) ⊎ (from + n ≤ at) }
+fn is_clear(at: usize, from: usize, n: usize) -> bool
+    ensures { result ≡ true → Clear false at from n }
 {
     if at <= from {
         return true;
@@ -93,7 +66,7 @@ pub(crate) fn is_clear(at: usize, from: usize, n: usize) -> bool
 
 // The same in either direction: then the row is a copy.
 pub(crate) fn reads_first(back: bool, at: usize, from: usize, n: usize) -> bool
-    ensures { result ≡ true → (f : ℕ → ℕ → ℕ) (l : List ℕ) → shifted back f n l at from ≡ copied f n l at l from }
+    ensures { result ≡ true → Clear back at from n }
 {
     if back {
         return is_clear(from, at, n);
@@ -101,47 +74,26 @@ pub(crate) fn reads_first(back: bool, at: usize, from: usize, n: usize) -> bool
     is_clear(at, from, n)
 }
 
+// What a row takes from right to left, and from left to right.
+pub(crate) fn by_side<const BACK: bool>(to_left: usize, to_right: usize) -> usize
+    ensures { result ≡ cond BACK to_left to_right }
+{
+    if BACK { to_left } else { to_right }
+}
+
 // Within one buffer, where a byte may be read that was written before.
-pub(crate) fn move_bytes(buffer: &mut [u8], at: usize, from: usize, n: usize)
-    requires { (at + n ≤ length buffer.old) × (from + n ≤ length buffer.old) }
-    ensures { buffer.new ≡ moved (λ s d. s) n buffer.old at from }
+pub(crate) fn move_bytes<I: Ink, const BACK: bool>(
+    buffer: &mut [u8],
+    at: usize,
+    from: usize,
+    n: usize,
+    ink: I,
+)
+    requires { Fits buffer.old at n × Fits buffer.old from n }
+    ensures { buffer.new ≡ shifted BACK (I.byte ink) n buffer.old at from }
 {
-    let mut k: usize = 0;
-    while k < n {
-        buffer[at + k] = buffer[from + k];
-        k += 1;
-    }
-}
-
-pub(crate) fn move_bytes_back(buffer: &mut [u8], at: usize, from: usize, n: usize)
-    requires { (n ≤ at) × (n ≤ from) × (at ≤ length buffer.old) × (from ≤ length buffer.old) }
-    ensures { buffer.new ≡ moved_back (λ s d. s) n buffer.old at from }
-{
-    let mut k: usize = 0;
-    while k < n {
-        k += 1;
-        buffer[at - k] = buffer[from - k];
-    }
-}
-
-pub(crate) fn mix_within(buffer: &mut [u8], at: usize, from: usize, n: usize, mix: Mix)
-    requires { (at + n ≤ length buffer.old) × (from + n ≤ length buffer.old) }
-    ensures { buffer.new ≡ moved (mixed mix) n buffer.old at from }
-{
-    let mut k: usize = 0;
-    while k < n {
-        buffer[at + k] = mix_next(mix, buffer[from + k], buffer[at + k]);
-        k += 1;
-    }
-}
-
-pub(crate) fn mix_within_back(buffer: &mut [u8], at: usize, from: usize, n: usize, mix: Mix)
-    requires { (n ≤ at) × (n ≤ from) × (at ≤ length buffer.old) × (from ≤ length buffer.old) }
-    ensures { buffer.new ≡ moved_back (mixed mix) n buffer.old at from }
-{
-    let mut k: usize = 0;
-    while k < n {
-        k += 1;
-        buffer[at - k] = mix_next(mix, buffer[from - k], buffer[at - k]);
+    for k in 0..n {
+        let i = by_side::<BACK>(n - 1 - k, k);
+        buffer[at + i] = ink.byte(buffer[from + i], buffer[at + i]);
     }
 }

@@ -1,32 +1,34 @@
 // Rows of pixels at once: of one source byte, copied from another buffer, copied within one buffer, and of a tile (tiled.rt);
-// byte by byte (by_bytes.rt), in blocks (by_blocks.rt), or as bytes that nothing is mixed with (unmixed.rt).
+// byte by byte (by_bytes.rt), in blocks (by_blocks.rt), or as bytes that nothing is mixed with (unmixed.rt). How a new byte is made
+// is a type parameter of them (inks.rt).
+// Kept: no plainer. A row is a buffer, a place and a length: two rows of one buffer, which may overlap, cannot be lent as slices.
 
 #![tactic(auto)]
 
 mod by_blocks;
 mod by_bytes;
+mod inks;
 mod tiled;
 mod unmixed;
 
-ghost use Rattle.std.specs.Prelude.{◌≡◌, true, ℕ, ◌+◌, ◌≤◌, leb, length};
+ghost use Rattle.std.specs.Prelude.{◌≡◌, ◌&&◌, true, ℕ, ◌+◌, ◌≤◌, leb};
 ghost use Rattle.rows.specs.declared.Mix.{Mix};
-ghost use Rattle.rows.specs.Rows.{mixed, unkeyed, covered, filled, moved, moved_back, Plain, Twice};
+ghost use Rattle.rows.specs.Rows.{mixed, unkeyed, covered, filled, shifted, Plain, Fits, Twice};
 ghost use Rattle.rows.specs.Rows.{filled_row, copied_row, moved_row, moved_back_row, shifted_row, tiled_row};
 
-use crate::by_blocks::{
-    draw_long, draw_short, mix_long, mix_short, mix_short_within, move_long, move_long_back,
-};
-use crate::by_bytes::{draw_bytes, is_clear, mix_bytes, mix_within, mix_within_back, reads_first};
-use crate::tiled::{cover_row, mix_row};
-use crate::unmixed::{copy_plain, fill_plain, move_plain, move_plain_back};
+use crate::by_blocks::{draw_long, draw_short, ends, mix_ends, mix_long, move_long};
+use crate::by_bytes::{draw_bytes, mix_bytes, move_bytes, reads_first};
+use crate::inks::{Covering, InTurn};
+use crate::tiled::mix_tile;
+use crate::unmixed::{copy_plain, fill_plain, move_plain};
 use raster::{Pen, Selectors};
 
-// How a source byte is mixed with an old byte: raster code and plane mask as selectors, and KEY.
+// How a source byte is mixed with an old byte: raster code and plane mask as selectors, and KEY, if it is set: a source byte that
+// draws nothing.
 #[derive(Clone, Copy)]
 pub struct Mix {
     pub selectors: Selectors,
-    pub keyed: bool,
-    pub key: u8,
+    pub key: Option<u8>,
 }
 
 // True only where every new byte is the source byte.
@@ -34,7 +36,7 @@ pub fn is_plain(mix: Mix) -> bool
     ensures { result ≡ true → Plain (mixed mix) }
 {
     let q = mix.selectors;
-    !mix.keyed & (q.both == 0) & (q.old == 0) & (q.source == 255) & (q.none == 0)
+    mix.key.is_none() & (q.both == 0) & (q.old == 0) & (q.source == 255) & (q.none == 0)
 }
 
 // Whether n bytes from `at` on end within `len`.
@@ -47,9 +49,17 @@ fn fits(len: usize, at: usize, n: usize) -> bool
     false
 }
 
+// The same for two rows, of two buffers or of one.
+fn both_fit(len: usize, at: usize, source_len: usize, from: usize, n: usize) -> bool
+    ensures { result ≡ (leb (at + n) len && leb (from + n) source_len) }
+{
+    fits(len, at, n) & fits(source_len, from, n)
+}
+
 // A row that fits, with one pen.
+#[inline(always)]
 fn fill_pixels(buffer: &mut [u8], at: usize, n: usize, pen: Pen)
-    requires { at + n ≤ length buffer.old }
+    requires { Fits buffer.old at n }
     ensures { buffer.new ≡ filled pen n buffer.old at }
 {
     if (pen.keep == 0) & (8 <= n) {
@@ -63,38 +73,26 @@ fn fill_pixels(buffer: &mut [u8], at: usize, n: usize, pen: Pen)
     draw_long(buffer, at, n, pen);
 }
 
-// Rows that fit, within one buffer.
-fn move_pixels(buffer: &mut [u8], at: usize, from: usize, n: usize, mix: Mix)
-    requires { (at + n ≤ length buffer.old) × (from + n ≤ length buffer.old) }
-    ensures { buffer.new ≡ moved (mixed mix) n buffer.old at from }
+// A row that fits, within one buffer.
+fn move_pixels<const BACK: bool>(buffer: &mut [u8], at: usize, from: usize, n: usize, mix: Mix)
+    requires { Fits buffer.old at n × Fits buffer.old from n }
+    ensures { buffer.new ≡ shifted BACK (mixed mix) n buffer.old at from }
 {
+    let ink = InTurn { mix };
     if n < 32 {
-        mix_within(buffer, at, from, n, mix);
+        move_bytes::<InTurn, BACK>(buffer, at, from, n, ink);
         return;
     }
-    if is_clear(at, from, 32) {
-        move_long(buffer, at, from, n, mix);
+    if reads_first(BACK, at, from, 32) {
+        move_long::<BACK>(buffer, at, from, n, mix);
         return;
     }
-    mix_within(buffer, at, from, n, mix);
-}
-
-fn move_pixels_back(buffer: &mut [u8], at: usize, from: usize, n: usize, mix: Mix)
-    requires { (n ≤ at) × (n ≤ from) × (at ≤ length buffer.old) × (from ≤ length buffer.old) }
-    ensures { buffer.new ≡ moved_back (mixed mix) n buffer.old at from }
-{
-    if n < 32 {
-        mix_within_back(buffer, at, from, n, mix);
-        return;
-    }
-    if is_clear(from, at, 32) {
-        move_long_back(buffer, at, from, n, mix);
-        return;
-    }
-    mix_within_back(buffer, at, from, n, mix);
+    move_bytes::<InTurn, BACK>(buffer, at, from, n, ink);
 }
 
 // n pixels from `at` on, drawn with one pen.
+#[tactic(auto, unfolding(crate::specs::Rows::filled_row))]
+#[inline(always)]
 pub fn fill_row(buffer: &mut [u8], at: usize, n: usize, pen: Pen)
     ensures { buffer.new ≡ filled_row pen n buffer.old at }
 {
@@ -105,6 +103,7 @@ pub fn fill_row(buffer: &mut [u8], at: usize, n: usize, pen: Pen)
 }
 
 // The same for loops over narrow rows: what is done for 8 to 16 pixels is short enough to be compiled into the loop.
+#[tactic(auto, unfolding(crate::specs::Rows::filled_row))]
 pub fn fill_narrow(buffer: &mut [u8], at: usize, n: usize, pen: Pen)
     ensures { buffer.new ≡ filled_row pen n buffer.old at }
 {
@@ -119,10 +118,11 @@ pub fn fill_narrow(buffer: &mut [u8], at: usize, n: usize, pen: Pen)
 }
 
 // n pixels from `at` on, from the pixels of another buffer from `from` on.
+#[tactic(auto, unfolding(crate::specs::Rows::copied_row))]
 pub fn copy_row(buffer: &mut [u8], at: usize, source: &[u8], from: usize, n: usize, mix: Mix)
     ensures { buffer.new ≡ copied_row mix n buffer.old at source.now from }
 {
-    if !(fits(buffer.len(), at, n) & fits(source.len(), from, n)) {
+    if !both_fit(buffer.len(), at, source.len(), from, n) {
         return;
     }
     mix_bytes(buffer, at, source, from, n, mix);
@@ -133,88 +133,96 @@ pub fn copy_row(buffer: &mut [u8], at: usize, source: &[u8], from: usize, n: usi
 pub fn copy_plain_row(buffer: &mut [u8], at: usize, source: &[u8], from: usize, n: usize)
     ensures { (mix : Mix) → Plain (mixed mix) → buffer.new ≡ copied_row mix n buffer.old at source.now from }
 {
-    if !(fits(buffer.len(), at, n) & fits(source.len(), from, n)) {
+    if !both_fit(buffer.len(), at, source.len(), from, n) {
         return;
     }
     copy_plain(buffer, at, source, from, n);
 }
 
+#[tactic(auto, unfolding(crate::specs::Rows::copied_row))]
 pub fn copy_short_row(buffer: &mut [u8], at: usize, source: &[u8], from: usize, n: usize, mix: Mix)
     ensures { 8 ≤ n → n ≤ 16 → buffer.new ≡ copied_row mix n buffer.old at source.now from }
 {
     if (16 < n) | (n < 8) {
         return;
     }
-    if !(fits(buffer.len(), at, n) & fits(source.len(), from, n)) {
+    if !both_fit(buffer.len(), at, source.len(), from, n) {
         return;
     }
-    mix_short(buffer, at, source, from, n, mix);
+    let pixels = ends(source, from, n);
+    mix_ends(buffer, at, pixels, n, mix);
 }
 
+#[tactic(auto, unfolding(crate::specs::Rows::copied_row))]
 pub fn copy_long_row(buffer: &mut [u8], at: usize, source: &[u8], from: usize, n: usize, mix: Mix)
     ensures { 32 ≤ n → buffer.new ≡ copied_row mix n buffer.old at source.now from }
 {
     if n < 32 {
         return;
     }
-    if !(fits(buffer.len(), at, n) & fits(source.len(), from, n)) {
+    if !both_fit(buffer.len(), at, source.len(), from, n) {
         return;
     }
     mix_long(buffer, at, source, from, n, mix);
 }
 
 // The same within one buffer, from left to right.
+#[tactic(auto, unfolding(crate::specs::Rows::moved_row))]
 pub fn move_row(buffer: &mut [u8], at: usize, from: usize, n: usize, mix: Mix)
     ensures { buffer.new ≡ moved_row mix n buffer.old at from }
 {
-    if !(fits(buffer.len(), at, n) & fits(buffer.len(), from, n)) {
+    if !both_fit(buffer.len(), at, buffer.len(), from, n) {
         return;
     }
-    move_pixels(buffer, at, from, n, mix);
+    move_pixels::<false>(buffer, at, from, n, mix);
 }
 
 // The same within one buffer, from right to left; `at` and `from` are past the right ends.
+#[tactic(auto, unfolding(crate::specs::Rows::moved_back_row))]
 pub fn move_row_back(buffer: &mut [u8], at: usize, from: usize, n: usize, mix: Mix)
     ensures { buffer.new ≡ moved_back_row mix n buffer.old at from }
 {
     if !((n <= at) & (n <= from) & (at <= buffer.len()) & (from <= buffer.len())) {
         return;
     }
-    move_pixels_back(buffer, at, from, n, mix);
+    move_pixels::<true>(buffer, at - n, from - n, n, mix);
 }
 
 // The same in either direction, from left ends: where every new byte is the source byte, and where there are 8 to 16 pixels.
 pub fn move_plain_row(back: bool, buffer: &mut [u8], at: usize, from: usize, n: usize)
     ensures { (mix : Mix) → Plain (mixed mix) → buffer.new ≡ shifted_row back mix n buffer.old at from }
 {
-    if !(fits(buffer.len(), at, n) & fits(buffer.len(), from, n)) {
+    if !both_fit(buffer.len(), at, buffer.len(), from, n) {
         return;
     }
     if back {
-        move_plain_back(buffer, at + n, from + n, n);
+        move_plain::<true>(buffer, at, from, n);
         return;
     }
-    move_plain(buffer, at, from, n);
+    move_plain::<false>(buffer, at, from, n);
 }
 
+#[tactic(auto, unfolding(crate::specs::Rows::shifted_row))]
 pub fn move_short_row(back: bool, buffer: &mut [u8], at: usize, from: usize, n: usize, mix: Mix)
     ensures { 8 ≤ n → n ≤ 16 → buffer.new ≡ shifted_row back mix n buffer.old at from }
 {
     if (16 < n) | (n < 8) {
         return;
     }
-    if !(fits(buffer.len(), at, n) & fits(buffer.len(), from, n)) {
+    if !both_fit(buffer.len(), at, buffer.len(), from, n) {
         return;
     }
     if reads_first(back, at, from, n) {
-        mix_short_within(buffer, at, from, n, mix);
+        let pixels = ends(buffer, from, n);
+        mix_ends(buffer, at, pixels, n, mix);
         return;
     }
+    let ink = InTurn { mix };
     if back {
-        mix_within_back(buffer, at + n, from + n, n, mix);
+        move_bytes::<InTurn, true>(buffer, at, from, n, ink);
         return;
     }
-    mix_within(buffer, at, from, n, mix);
+    move_bytes::<InTurn, false>(buffer, at, from, n, ink);
 }
 
 // True only where the old byte does not count.
@@ -225,6 +233,7 @@ fn covers(q: Selectors) -> bool
 }
 
 // n pixels of a tile from `at` on, from column x of row y on; `wide` has the tile's rows, each twice.
+#[tactic(auto, unfolding(crate::specs::Rows::tiled_row))]
 pub fn tile_row(
     buffer: &mut [u8],
     at: usize,
@@ -243,13 +252,13 @@ pub fn tile_row(
     let from = row + x % 16;
     let last = row + (x % 16 + n % 16) % 16;
     if covers(selectors) {
-        cover_row(buffer, at, n, wide, from, last, selectors);
+        let ink = Covering { selectors };
+        mix_tile(buffer, at, n, wide, from, last, ink);
         return;
     }
     let mix = Mix {
         selectors,
-        keyed: false,
-        key: 0,
+        key: None,
     };
-    mix_row(buffer, at, n, wide, from, last, mix);
+    mix_tile(buffer, at, n, wide, from, last, mix);
 }

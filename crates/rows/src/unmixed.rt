@@ -1,13 +1,15 @@
 // Rows of one byte, and rows of the source bytes as they are: at once where that is the same.
-ghost use Rattle.std.specs.Prelude.{◌≡◌, ◌+◌, ◌≤◌, length};
+ghost use Rattle.std.specs.Prelude.{◌≡◌, ◌+◌, ◌≤◌};
 ghost use Rattle.lemmas.specs.Sweeps.{sweep};
-ghost use Rattle.rows.specs.Rows.{copied, moved, moved_back};
+ghost use Rattle.rows.specs.Rows.{copied, shifted, Fits};
 
-use crate::by_bytes::{copy_bytes, fill_bytes, is_clear, move_bytes, move_bytes_back};
+use crate::by_blocks::{ends, mix_ends};
+use crate::by_bytes::{fill_bytes, move_bytes, reads_first};
+use crate::inks::Unmixed;
 
 // b to 2b bytes become x: the first b, and the last b.
 fn fill_twice(buffer: &mut [u8], at: usize, n: usize, b: usize, x: u8)
-    requires { (b ≤ n) × (n ≤ b + b) × (at + n ≤ length buffer.old) }
+    requires { (b ≤ n) × (n ≤ b + b) × Fits buffer.old at n }
     ensures { buffer.new ≡ sweep (λ k. at + k) (λ k m. x) n buffer.old }
 {
     fill_bytes(buffer, at, b, x);
@@ -16,7 +18,7 @@ fn fill_twice(buffer: &mut [u8], at: usize, n: usize, b: usize, x: u8)
 
 // The same for 8 bytes or more: with a fixed length a fill is one store, with another a call of memset.
 pub(crate) fn fill_plain(buffer: &mut [u8], at: usize, n: usize, x: u8)
-    requires { (8 ≤ n) × (at + n ≤ length buffer.old) }
+    requires { (8 ≤ n) × Fits buffer.old at n }
     ensures { buffer.new ≡ sweep (λ k. at + k) (λ k m. x) n buffer.old }
 {
     if n < 16 {
@@ -30,96 +32,62 @@ pub(crate) fn fill_plain(buffer: &mut [u8], at: usize, n: usize, x: u8)
     fill_bytes(buffer, at, n, x);
 }
 
-// At most 4096 pixels, all read before the first of them is written: the compiler makes one memmove of the two loops.
+// The source bytes as they are, by a call of memmove.
 fn copy_at_once(buffer: &mut [u8], at: usize, source: &[u8], from: usize, n: usize)
-    requires { (n ≤ 4096) × (at + n ≤ length buffer.old) × (from + n ≤ length source.now) }
+    requires { Fits buffer.old at n × Fits source.now from n }
     ensures { buffer.new ≡ copied (λ s d. s) n buffer.old at source.now from }
 {
-    let mut pixels: [u8; 4096] = [0; 4096];
-    copy_bytes(&mut pixels, 0, source, from, n);
-    copy_bytes(buffer, at, &pixels, 0, n);
-}
-
-fn move_at_once(buffer: &mut [u8], at: usize, from: usize, n: usize)
-    requires { (n ≤ 4096) × (at + n ≤ length buffer.old) × (from + n ≤ length buffer.old) }
-    ensures { buffer.new ≡ copied (λ s d. s) n buffer.old at buffer.old from }
-{
-    let mut pixels: [u8; 4096] = [0; 4096];
-    copy_bytes(&mut pixels, 0, buffer, from, n);
-    copy_bytes(buffer, at, &pixels, 0, n);
-}
-
-// Rows of 8 to 16 pixels: the first 8 and the last 8, all read before the first of them is written.
-fn copy_short(buffer: &mut [u8], at: usize, source: &[u8], from: usize, n: usize)
-    requires { (8 ≤ n) × (n ≤ 16) × (at + n ≤ length buffer.old) × (from + n ≤ length source.now) }
-    ensures { buffer.new ≡ copied (λ s d. s) n buffer.old at source.now from }
-{
-    let z = n - 8;
-    let mut head: [u8; 8] = [0; 8];
-    let mut last: [u8; 8] = [0; 8];
-    copy_bytes(&mut head, 0, source, from, 8);
-    copy_bytes(&mut last, 0, source, from + z, 8);
-    copy_bytes(buffer, at, &head, 0, 8);
-    copy_bytes(buffer, at + z, &last, 0, 8);
-}
-
-fn move_short(buffer: &mut [u8], at: usize, from: usize, n: usize)
-    requires { (8 ≤ n) × (n ≤ 16) × (at + n ≤ length buffer.old) × (from + n ≤ length buffer.old) }
-    ensures { buffer.new ≡ copied (λ s d. s) n buffer.old at buffer.old from }
-{
-    let z = n - 8;
-    let mut head: [u8; 8] = [0; 8];
-    let mut last: [u8; 8] = [0; 8];
-    copy_bytes(&mut head, 0, buffer, from, 8);
-    copy_bytes(&mut last, 0, buffer, from + z, 8);
-    copy_bytes(buffer, at, &head, 0, 8);
-    copy_bytes(buffer, at + z, &last, 0, 8);
+    buffer[at..at + n].copy_from_slice(&source[from..from + n]);
 }
 
 // Rows of the source bytes as they are, at once where that is the same.
 pub(crate) fn copy_plain(buffer: &mut [u8], at: usize, source: &[u8], from: usize, n: usize)
-    requires { (at + n ≤ length buffer.old) × (from + n ≤ length source.now) }
+    requires { Fits buffer.old at n × Fits source.now from n }
     ensures { buffer.new ≡ copied (λ s d. s) n buffer.old at source.now from }
 {
     if (8 <= n) & (n <= 16) {
-        copy_short(buffer, at, source, from, n);
+        let pixels = ends(source, from, n);
+        mix_ends(buffer, at, pixels, n, Unmixed);
         return;
     }
-    if n <= 4096 {
-        copy_at_once(buffer, at, source, from, n);
-        return;
-    }
-    copy_bytes(buffer, at, source, from, n);
+    copy_at_once(buffer, at, source, from, n);
 }
 
-pub(crate) fn move_plain(buffer: &mut [u8], at: usize, from: usize, n: usize)
-    requires { (at + n ≤ length buffer.old) × (from + n ≤ length buffer.old) }
-    ensures { buffer.new ≡ moved (λ s d. s) n buffer.old at from }
+// At most 4096 pixels, all read before the first of them is written: the compiler makes one memmove of the two copies.
+// Kept: tried and slower. `copy_within` moves byte by byte, and rows take a third to two and a half times longer.
+fn move_at_once(buffer: &mut [u8], at: usize, from: usize, n: usize)
+    requires { (n ≤ 4096) × Fits buffer.old at n × Fits buffer.old from n }
+    ensures { buffer.new ≡ copied (λ s d. s) n buffer.old at buffer.old from }
 {
-    let clear = is_clear(at, from, n);
+    let mut pixels: [u8; 4096] = [0; 4096];
+    copy_at_once(&mut pixels, 0, buffer, from, n);
+    copy_at_once(buffer, at, &pixels, 0, n);
+}
+
+// Byte by byte within one buffer. It is no part of a loop over rows: there the compiler asks whether two rows overlap, and here, how far
+// apart they are, so that it takes 32 bytes at once of rows that overlap too.
+#[inline(never)]
+fn move_in_turn<const BACK: bool>(buffer: &mut [u8], at: usize, from: usize, n: usize)
+    requires { Fits buffer.old at n × Fits buffer.old from n }
+    ensures { buffer.new ≡ shifted BACK (λ s d. s) n buffer.old at from }
+{
+    move_bytes::<Unmixed, BACK>(buffer, at, from, n, Unmixed);
+}
+
+// Within one buffer, at once where all pixels may be read before the first is written; else byte by byte.
+pub(crate) fn move_plain<const BACK: bool>(buffer: &mut [u8], at: usize, from: usize, n: usize)
+    requires { Fits buffer.old at n × Fits buffer.old from n }
+    ensures { buffer.new ≡ shifted BACK (λ s d. s) n buffer.old at from }
+{
+    let clear = reads_first(BACK, at, from, n);
     if clear & (8 <= n) & (n <= 16) {
-        move_short(buffer, at, from, n);
+        let pixels = ends(buffer, from, n);
+        mix_ends(buffer, at, pixels, n, Unmixed);
         return;
     }
     if clear & (n <= 4096) {
         move_at_once(buffer, at, from, n);
         return;
     }
-    move_bytes(buffer, at, from, n);
-}
-
-pub(crate) fn move_plain_back(buffer: &mut [u8], at: usize, from: usize, n: usize)
-    requires { (n ≤ at) × (n ≤ from) × (at ≤ length buffer.old) × (from ≤ length buffer.old) }
-    ensures { buffer.new ≡ moved_back (λ s d. s) n buffer.old at from }
-{
-    let clear = is_clear(from, at, n);
-    if clear & (8 <= n) & (n <= 16) {
-        move_short(buffer, at - n, from - n, n);
-        return;
-    }
-    if clear & (n <= 4096) {
-        move_at_once(buffer, at - n, from - n, n);
-        return;
-    }
-    move_bytes_back(buffer, at, from, n);
+    move_in_turn::<BACK>(buffer, at, from, n);
 }

@@ -1,22 +1,20 @@
 -- What post, store and window write answer, by the tests that a call passes; that a refusal leaves the memory as it
--- was; and bytes put into a memory one by one.
+-- was; and bytes put into a memory.
 -- Assumes nothing.
 use mathlib.Core.Path.{◌≡◌, refl, ap, sym, ◌∙◌}
 use mathlib.Core.Bool.{Bool, true, false, cond, ◌&&◌, ◌||◌}
-use mathlib.Core.List.{List, ◌++◌}
-use Prim.Native.Nat.{ℕ, ◌+◌, ◌*◌, ◌/◌, ◌%◌, ◌≤◌, ◌<◌}
-use native.Mathlib.Numerals.{add-one}
+use mathlib.Core.List.{List, ◌++◌, append_assoc}
+use Prim.Native.Nat.{ℕ, ◌+◌, ◌-◌, ◌*◌, ◌/◌, ◌%◌, ◌≤◌, ◌<◌}
 use native.Mathlib.Omega.{arith}
 use borrow.Author.Tests.{eq-eqb, ne_eqb, le-leb, lt-leb, leb-true}
 use lib.Dec.{eqb, leb}
-use lib.ListN.{length, get_or, set, take, drop}
-use lib.Seq.{paste, paste-zero, paste-suc, take-length}
+use lib.ListN.{length, take, drop}
+use lib.Seq.{drop-drop}
 use Rattle.lemmas.proofs.Booleans.{by_cases, of_either}
 use Rattle.lemmas.specs.Memory.{put_into}
+use Rattle.std.specs.Prelude.{Option, Some, None}
 use Rattle.answers.specs.Reports.{Report, report}
 use Rattle.lists.specs.Spans.{span_of, first_illegal}
-use Rattle.lists.specs.declared.spans.Illegal.{Illegal}
-use Rattle.lists.specs.declared.spans.Illegal.TheVariants.{At, Nowhere}
 use Rattle.slots.specs.Calls.{put_fitting, judged_by, post_report, holds_any, Lent, leaves, store_report, write_report}
 use Rattle.slots.specs.Slots.{area_of}
 use Rattle.slots.specs.declared.record.Sizes.{Sizes}
@@ -45,7 +43,7 @@ module _ (z : Sizes) (a p : Slot) where
           post-full h =
               rw (eq-eqb (length l) (5 * z.entries) long, ne_eqb count 0 some, le-leb (start + count) z.entries fits, h)
 
-          pub post-judged : (a.taken && p.taken) ≡ false → (i j : Illegal) → i ≡ first_illegal l (span_of start count) → i ≡ j
+          pub post-judged : (a.taken && p.taken) ≡ false → (i j : Option ℕ) → i ≡ first_illegal l (span_of start count) → i ≡ j
               → judged_by j ≡ post_report z a p l start count
           unfolding post_report
           post-judged h i j s t =
@@ -135,9 +133,9 @@ write-leaves z a p number offset bytes buffer =
     (a.taken || p.taken)
 
 -- ---- a post reports no steps, a store and a window write neither place nor steps
-judged-steps : (i : Illegal) → (judged_by i).steps ≡ 0
-judged-steps (At place) = refl
-judged-steps Nowhere = refl
+judged-steps : (i : Option ℕ) → (judged_by i).steps ≡ 0
+judged-steps (Some place) = refl
+judged-steps None = refl
 
 pub post_steps : (z : Sizes) (a p : Slot) (l : List ℕ) (start count : ℕ) → (post_report z a p l start count).steps ≡ 0
 unfolding post_report
@@ -186,18 +184,13 @@ store-answers P zero two four eight z a p l first bytes =
     four)
     two
 
--- ---- bytes into a memory
-pub put-start : (l : List ℕ) (at : ℕ) (bytes : List ℕ) → l ≡ paste l at bytes 0
-put-start l at bytes = paste-zero l at bytes
-
-pub put-more : (l : List ℕ) (at : ℕ) (bytes : List ℕ) (k : ℕ) (m : List ℕ) → at + k < length l → k < length bytes → m ≡ paste l at bytes k
-    → set m (at + k) (get_or bytes k 0) ≡ paste l at bytes (k + 1)
-put-more l at bytes k m h o e =
-    ap (λ m. set m (at + k) (get_or bytes k 0)) e ∙ paste-suc l at bytes k 0 h o ∙ ap (λ k. paste l at bytes k) (sym (add-one k))
-
-pub put_all : (l : List ℕ) (at : ℕ) (bytes : List ℕ) → paste l at bytes (length bytes) ≡ put_into l at bytes
+-- ---- bytes into a memory: as a part of it that is replaced
+pub put_part : (l bytes part : List ℕ) (at : ℕ) → at + length bytes ≤ length l → part ≡ bytes
+    → take at l ++ (part ++ drop (at + length bytes - at) (drop at l)) ≡ put_into l at bytes
 unfolding put_into
-put_all l at bytes = ap (λ b. take at l ++ b ++ drop (at + length bytes) l) (take-length bytes)
+put_part l bytes part at h e =
+    let k : at + length bytes - at ≡ length bytes = omega arith in
+    rw (e, k, drop-drop (length bytes) at l) (sym (append_assoc (take at l) bytes (drop (at + length bytes) l)))
 
 -- where they fit, and where they do not
 pub put-fits : (l : List ℕ) (at : ℕ) (bytes : List ℕ) → at + length bytes ≤ length l → put_into l at bytes ≡ put_fitting l at bytes

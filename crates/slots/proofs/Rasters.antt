@@ -8,6 +8,7 @@ use native.Mathlib.Omega.{arith}
 use borrow.Author.Tests.{le-leb, lt-leb, leb-true, eq-eqb, eqb-true}
 use lib.Dec.{eqb, leb}
 use lib.ListN.{length, take, drop, length-drop}
+use Rattle.std.specs.Prelude.{Result, Ok, Err}
 use Rattle.lemmas.proofs.Booleans.{by_cases, of_either, and_left, and_right, both}
 use Rattle.lemmas.proofs.Memories.{put_whole}
 use Rattle.pictures.specs.Lent.{Lent as Given, lent as given}
@@ -15,22 +16,20 @@ use Rattle.pictures.specs.Pictures.{is_picture, pixels_of, picture_of, size_of}
 use Rattle.pictures.proofs.RoundTrip.{restores}
 use Rattle.pictures.specs.Writing.{written_of}
 use Rattle.pictures.specs.Reading.{read_of}
-use Rattle.pictures.specs.declared.writing.WriteStatus.{WriteStatus}
-use Rattle.pictures.specs.declared.writing.WriteStatus.TheVariants.{Done as Wrote, WrongSize as Unfit, TooShort}
-use Rattle.pictures.specs.declared.reading.ReadStatus.{ReadStatus}
-use Rattle.pictures.specs.declared.reading.ReadStatus.TheVariants.{Done as Read, WrongSize as OtherSize, NotAPicture}
+use Rattle.pictures.specs.declared.writing.WriteError.{WriteError}
+use Rattle.pictures.specs.declared.reading.ReadError.{ReadError}
+use Rattle.answers.specs.Reports.{unread, unwritten}
 use Rattle.slots.specs.Slots.{area_of}
-use Rattle.slots.specs.Calls.{Lent, leaves, write_report}
-use Rattle.slots.specs.Picturing.{Exporting, exports, export_report, import_report}
+use Rattle.slots.specs.Calls.{Lent, lent, leaves, write_report}
+use Rattle.slots.specs.Picturing.{Exporting, exporting, exports, export_report, import_report}
 use Rattle.slots.specs.declared.record.Sizes.{Sizes}
 use Rattle.slots.specs.declared.record.Slot.{Slot}
 use Rattle.slots.proofs.Grounds.{NumberAlone, write_done}
 
 -- ---- export
-abbrev pub exports_as : WriteStatus → List ℕ → Exporting
-exports_as (Wrote bytes) output = exports 0 bytes output
-exports_as Unfit output = exports 2 0 output
-exports_as TooShort output = exports 4 0 output
+abbrev pub exports_as : Result ℕ WriteError → List ℕ → Exporting
+exports_as (Ok bytes) output = exporting (Ok bytes) output
+exports_as (Err error) output = exporting (Err (unwritten error)) output
 
 module _ (z : Sizes) (number : ℕ) (buffer output : List ℕ) where
   pub export-unnamed : 1 < number → exports 2 0 output ≡ export_report z number buffer output
@@ -46,11 +45,11 @@ module _ (z : Sizes) (number : ℕ) (buffer output : List ℕ) where
       (λ t. rw t (by_cases (leb (size_of z.extent.width z.extent.height) (length output)) (λ u. rw u) (λ u. rw u)))
       (λ t. rw t))
 
-  pub export-by : number ≤ 1 → (said s : WriteStatus) (after : List ℕ)
+  pub export-by : number ≤ 1 → (said s : Result ℕ WriteError) (after : List ℕ)
       → given said after ≡ written_of z.extent.width z.extent.height buffer output → said ≡ s
       → exports_as s after ≡ export_report z number buffer output
   export-by h said s after e p =
-      ap (λ s. exports_as s after) (sym p) ∙ ap (λ (m : Given WriteStatus). exports_as m.answer m.bytes) e ∙ writes h
+      ap (λ s. exports_as s after) (sym p) ∙ ap (λ (m : Given (Result ℕ WriteError)). exports_as m.answer m.bytes) e ∙ writes h
 
   -- the numbers that it answers
   pub export-numbers : (P : ℕ → Type 0) → P 0 → P 2 → P 4 → P (export_report z number buffer output).report.number
@@ -84,10 +83,9 @@ module _ (z : Sizes) (number : ℕ) (buffer output : List ℕ) where
       refl
 
 -- ---- import
-abbrev pub imports_as : ReadStatus → List ℕ → Lent
-imports_as Read buffer = leaves 0 buffer
-imports_as OtherSize buffer = leaves 2 buffer
-imports_as NotAPicture buffer = leaves 11 buffer
+abbrev pub imports_as : Result (Unit {0}) ReadError → List ℕ → Lent
+imports_as (Ok u) buffer = lent (Ok 0) buffer
+imports_as (Err error) buffer = lent (Err (unread error)) buffer
 
 -- the pixels of a picture are as many as its size says
 picture-long : (width height : ℕ) (l : List ℕ) → is_picture width height l ≡ true → length (pixels_of width height l) ≡ width * height
@@ -119,11 +117,11 @@ module _ (z : Sizes) (a p : Slot) (number : ℕ) (picture buffer : List ℕ) whe
         rw (named, u, and_right (leb number 1) (eqb (length buffer) (area_of z)) named)
         (by_cases (is_picture z.extent.width z.extent.height picture) (λ t. rw t) (λ t. rw t))
 
-    pub import-by : (a.taken || p.taken) ≡ false → (said s : ReadStatus) (after : List ℕ)
+    pub import-by : (a.taken || p.taken) ≡ false → (said s : Result (Unit {0}) ReadError) (after : List ℕ)
         → given said after ≡ read_of z.extent.width z.extent.height picture buffer → said ≡ s
         → imports_as s after ≡ import_report z a p number picture buffer
     import-by u said s after e q =
-        ap (λ s. imports_as s after) (sym q) ∙ ap (λ (m : Given ReadStatus). imports_as m.answer m.bytes) e ∙ reads u
+        ap (λ s. imports_as s after) (sym q) ∙ ap (λ (m : Given (Result (Unit {0}) ReadError)). imports_as m.answer m.bytes) e ∙ reads u
 
   abbrev imported : Lent
   imported = import_report z a p number picture buffer
@@ -196,7 +194,7 @@ module _ (z : Sizes) (a p : Slot) (number : ℕ) (pixels output buffer : List �
   shown = export_report z number pixels output
 
   read_back : length pixels ≡ area_of z → size ≤ length output → length buffer ≡ area_of z
-      → given Read pixels ≡ read_of width height (take size (picture_of width height pixels ++ drop size output)) buffer
+      → given (Ok tt) pixels ≡ read_of width height (take size (picture_of width height pixels ++ drop size output)) buffer
   unfolding written_of
   read_back e f g =
       sym (restores width height pixels output buffer e f g)
@@ -216,7 +214,7 @@ module _ (z : Sizes) (a p : Slot) (number : ℕ) (pixels output buffer : List �
       let long = eqb-true (length pixels) (area_of z) (and_right (leb number 1) (eqb (length pixels) (area_of z)) named) in
       let one = and_left (leb number 1) (eqb (length pixels) (area_of z)) named in
       import-by z a p number (take size (picture_of width height pixels ++ drop size output)) buffer
-      (both one (eq-eqb (length buffer) (area_of z) (same ∙ long))) free Read Read pixels
+      (both one (eq-eqb (length buffer) (area_of z) (same ∙ long))) free (Ok tt) (Ok tt) pixels
       (read_back long (leb-true size (length output) fits) (same ∙ long)) refl))
       (λ fits. rw fits (λ n. absurd (omega (arith, n))))))
       (λ named. rw named (λ n. absurd (omega (arith, n))))

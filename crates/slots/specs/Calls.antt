@@ -1,24 +1,26 @@
 -- What post, store and window write answer of a well formed record with these sizes, active and pending slot (01, What the host
 -- hears): each call's refusals in the order of their numbers, but for 1.
-use Rattle.std.specs.Prelude.{Bool, cond, ◌&&◌, ◌||◌, List, ℕ, ◌+◌, ◌*◌, ◌/◌, ◌%◌, eqb, leb, length}
+use Rattle.std.specs.Prelude.{◌≡◌, Bool, true, false, cond, ◌&&◌, ◌||◌, List, ℕ, ◌+◌, ◌*◌, ◌/◌, ◌%◌, eqb, leb, length, Option, Some, None, Result, MatchResult}
 use Rattle.lemmas.specs.Memory.{put_into}
 use Rattle.answers.specs.Reports.{Report, report, report_of}
-use Rattle.answers.specs.declared.Status.{Status}
+use Rattle.answers.specs.declared.Refusal.{Refusal}
 use Rattle.lists.specs.Spans.{span_of, first_illegal, touches}
-use Rattle.lists.specs.declared.spans.Illegal.{Illegal}
-use Rattle.lists.specs.declared.spans.Illegal.TheVariants.{At, Nowhere}
 use Rattle.slots.specs.Slots.{area_of}
 use Rattle.slots.specs.declared.record.Sizes.{Sizes}
 use Rattle.slots.specs.declared.record.Slot.{Slot}
+
+-- A test: the call goes on where it holds, and is refused for this reason where it does not.
+abbrev pub Tested : {A : Type 0} → Bool → Refusal → Result A Refusal → Type 0
+Tested holds why r = MatchResult r (λ _. holds ≡ true) (λ e. (e ≡ why) × (holds ≡ false))
 
 -- Bytes put into a memory where they fit.
 abbrev pub put_fitting : List ℕ → ℕ → List ℕ → List ℕ
 put_fitting l at bytes = cond (leb (at + length bytes) (length l)) (put_into l at bytes) l
 
 -- "Post: 1 to 6." The whole list is checked when it is posted.
-abbrev pub judged_by : Illegal → Report
-judged_by (At place) = report 6 place 0
-judged_by Nowhere = report 0 0 0
+abbrev pub judged_by : Option ℕ → Report
+judged_by (Some place) = report 6 place 0
+judged_by None = report 0 0 0
 
 unfoldable pub post_report : Sizes → Slot → Slot → List ℕ → ℕ → ℕ → Report
 post_report z a p list start count =
@@ -38,7 +40,7 @@ pub record Lent : Type 0 where
   pub report : Report
   pub memory : List ℕ
 
-abbrev pub lent : Status → List ℕ → Lent
+abbrev pub lent : Result ℕ Refusal → List ℕ → Lent
 lent status memory = record { report = report_of status; memory = memory }
 
 abbrev pub leaves : ℕ → List ℕ → Lent

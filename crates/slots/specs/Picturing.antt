@@ -1,13 +1,13 @@
 -- What export and import answer of a well formed record (02, R-9), but for 1: "2 for board buffers; 4 exactly where the output is
 -- shorter than the picture needs; 7 for import while a slot is taken; 11 for input that isn't such a picture or has bytes after it."
-use Rattle.std.specs.Prelude.{cond, ◌&&◌, ◌||◌, List, ◌++◌, ℕ, eqb, leb, length, drop}
+use Rattle.std.specs.Prelude.{cond, ◌&&◌, ◌||◌, List, ◌++◌, ℕ, eqb, leb, length, drop, Result, Ok, Err}
 use Rattle.answers.specs.Reports.{Report, report, report_of}
+use Rattle.answers.specs.declared.Refusal.{Refusal}
 use Rattle.pictures.specs.Pictures.{is_picture, pixels_of, picture_of, size_of}
 use Rattle.slots.specs.Slots.{area_of}
 use Rattle.slots.specs.Calls.{Lent, leaves}
 use Rattle.slots.specs.declared.record.Sizes.{Sizes}
 use Rattle.slots.specs.declared.record.Slot.{Slot}
-use Rattle.slots.specs.declared.picturing.Export.{Export}
 
 -- What an export answers: the bytes written, and the lent output after it.
 pub record Exporting : Type 0 where
@@ -15,8 +15,9 @@ pub record Exporting : Type 0 where
   pub written : ℕ
   pub output : List ℕ
 
-abbrev pub exporting : Export → List ℕ → Exporting
-exporting r output = record { report = report_of r.status; written = r.written; output = output }
+abbrev pub exporting : Result ℕ Refusal → List ℕ → Exporting
+exporting (Ok written) output = record { report = report 0 0 0; written = written; output = output }
+exporting (Err refusal) output = record { report = report_of (Err refusal); written = 0; output = output }
 
 abbrev pub exports : ℕ → ℕ → List ℕ → Exporting
 exports number written output = record { report = report number 0 0; written = written; output = output }

@@ -1,6 +1,8 @@
 -- The sizes and the two slots of a board record (01, What the engine has), and what makes them malformed (01, What the host
 -- hears).
-use Rattle.std.specs.Prelude.{Bool, true, false, cond, ◌&&◌, ℕ, ◌*◌, eqb, leb}
+use Rattle.std.specs.Prelude.{◌≡◌, Bool, true, false, cond, ◌&&◌, ℕ, ◌*◌, eqb, leb, Result, MatchResult}
+use Rattle.answers.specs.declared.Refusal.{Refusal}
+use Rattle.answers.specs.declared.Refusal.TheVariants.{WrongSize}
 use Rattle.lists.specs.Spans.{span_ok, no_span, is_none}
 use Rattle.lists.specs.Cursors.{cursor_on, cursor_ok}
 use Rattle.lists.specs.declared.spans.Span.{Span}
@@ -17,6 +19,15 @@ sizes_ok z =
     && leb z.extent.height 2048
     && leb 1 z.entries
     && leb z.entries 4096
+
+abbrev pub sizes : ℕ → ℕ → ℕ → Sizes
+sizes width height entries = record { extent = record { width = width; height = height }; entries = entries }
+
+-- Sizes in limits, or a refusal.
+abbrev pub MadeSizes : ℕ → ℕ → ℕ → Result Sizes Refusal → Type 0
+MadeSizes width height entries r =
+    MatchResult r (λ z. (z ≡ sizes width height entries) × (sizes_ok z ≡ true))
+    (λ e. (e ≡ WrongSize) × (sizes_ok (sizes width height entries) ≡ false))
 
 -- The bytes of a buffer.
 abbrev pub area_of : Sizes → ℕ

@@ -7,6 +7,6 @@ mod calls;
 mod picturing;
 mod record;
 
-pub use calls::{held, post_status, put_fitting, store_into, write_into};
-pub use picturing::{Export, export_into, import_into};
+pub use calls::{held, none_held, post_status, put_fitting, store_into, within, write_into};
+pub use picturing::{export_into, import_into};
 pub use record::{Active, Sizes, Slot};

@@ -1,7 +1,9 @@
 // Sizes and slots of a board record.
-ghost use Rattle.std.specs.Prelude.{◌≡◌};
-ghost use Rattle.slots.specs.Slots.{sizes_ok, lent_ok, slot_ok, slot_of, active_on, active_ok};
+ghost use Rattle.std.specs.Prelude.{◌≡◌, ◌&&◌, ◌*◌, eqb, leb};
+ghost use Rattle.slots.specs.Slots.{sizes_ok, sizes, MadeSizes, area_of, lent_ok, slot_ok, slot_of, active_on, active_ok};
+ghost use Rattle.slots.specs.Calls.{Tested};
 
+use answers::Refusal;
 use geometry::Extent;
 use lists::{Cursor, Span};
 
@@ -12,6 +14,7 @@ pub struct Sizes {
 }
 
 // The pending slot: a list that has not begun.
+// Kept: `taken` beside the span, since a free slot that is not zeros is a malformed record (`slot_ok`), which an Option cannot hold.
 #[derive(Clone, Copy)]
 pub struct Slot {
     pub taken: bool,
@@ -19,34 +22,82 @@ pub struct Slot {
 }
 
 // The active slot: the list that runs, and where it stands.
+// Kept: `taken` beside the cursor, as in Slot (`active_ok`).
 #[derive(Clone, Copy)]
 pub struct Active {
     pub taken: bool,
     pub cursor: Cursor,
 }
 
+// Whether a board has so many columns, rows and entries.
+fn in_limits(width: usize, height: usize, entries: usize) -> bool
+    ensures { result ≡ sizes_ok (sizes width height entries) }
+{
+    (1 <= width)
+        & (width <= 2048)
+        & (1 <= height)
+        & (height <= 2048)
+        & (1 <= entries)
+        & (entries <= 4096)
+}
+
 impl Sizes {
+    // The sizes of a board, which are in limits.
+    pub fn new(width: usize, height: usize, entries: usize) -> Result<Sizes, Refusal>
+        ensures { MadeSizes width height entries result }
+    {
+        if !in_limits(width, height, entries) {
+            return Err(Refusal::WrongSize);
+        }
+        Ok(Sizes {
+            extent: Extent {
+                width: width as u32,
+                height: height as u32,
+            },
+            entries: entries as u32,
+        })
+    }
+
     pub fn in_limits(self) -> bool
         ensures { result ≡ sizes_ok self }
     {
         let x = self.extent;
-        (1 <= x.width)
-            & (x.width <= 2048)
-            & (1 <= x.height)
-            & (x.height <= 2048)
-            & (1 <= self.entries)
-            & (self.entries <= 4096)
+        in_limits(x.width as usize, x.height as usize, self.entries as usize)
+    }
+
+    // The bytes of list memory.
+    pub fn list_len(self) -> usize
+        ensures { result ≡ 5 * self.entries }
+    {
+        5 * (self.entries as usize)
+    }
+
+    // The bytes of a buffer.
+    pub(crate) fn area(self) -> usize
+        ensures { result ≡ area_of self }
+    {
+        let x = self.extent;
+        (x.width as usize) * (x.height as usize)
     }
 
     // Whether memories of these lengths are list memory and two buffers of these sizes.
     pub fn lent_ok(self, list: usize, display: usize, virt: usize) -> bool
         ensures { result ≡ lent_ok self list display virt }
     {
-        let x = self.extent;
-        let area = (x.width as u64) * (x.height as u64);
-        (list as u64 == 5 * (self.entries as u64))
-            & (display as u64 == area)
-            & (virt as u64 == area)
+        let area = self.area();
+        (list == self.list_len()) & (display == area) & (virt == area)
+    }
+
+    // Whether the number names a buffer, and a memory of this length is one.
+    // Kept: a buffer by its number, here and in each call: one past 1 is answered WrongSize (document 01, What the host hears).
+    pub(crate) fn named(self, number: usize, buffer: usize) -> Result<(), Refusal>
+        ensures { Tested (leb number 1 && eqb buffer (area_of self)) Refusal.WrongSize result }
+    {
+        if (number <= 1) & (buffer == self.area()) {
+            Ok(())
+        } else {
+            Err(Refusal::WrongSize)
+        }
     }
 }
 

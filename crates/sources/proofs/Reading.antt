@@ -1,14 +1,14 @@
 -- The source of a visit, by the tests that it passes; of a blit's bits, by the byte that holds the bit.
 -- Assumes nothing.
-use Rattle.geometry.specs.declared.Visit.TheVariants.{At as VisitAt}
 use mathlib.Core.Path.{◌≡◌, ap, ap₂, sym, ◌∙◌}
-use mathlib.Core.Bool.{Bool, true, false, cond, ◌&&◌}
+use mathlib.Core.Bool.{Bool, true, false, cond}
 use mathlib.Core.List.{List}
-use Prim.Native.Nat.{ℕ, ◌+◌, ◌-◌, ◌*◌, ◌/◌, ◌%◌, ◌≤◌, ◌<◌}
+use Prim.Native.Nat.{ℕ, ◌+◌, ◌-◌, ◌*◌, ◌/◌, ◌%◌, ◌≤◌}
 use native.Mathlib.Omega.{arith}
-use borrow.Author.Tests.{ltb-true, ltb-false, le-leb, lt-leb, lt-ltb, le-ltb}
+use borrow.Author.Tests.{ltb-true, ltb-false, le-leb, lt-ltb, le-ltb}
 use lib.Dec.{eqb, ltb}
 use lib.ListN.{get_or}
+use Rattle.std.specs.Prelude.{Option, Some, None}
 use Rattle.raster.specs.Raster.{bit}
 use Rattle.lemmas.proofs.Booleans.{by_cases, first_of, second-of}
 use Rattle.geometry.specs.Coordinates.{origin, point_of}
@@ -17,36 +17,13 @@ use Rattle.geometry.specs.Blit.{cell_visit}
 use Rattle.geometry.specs.declared.Cell.{Cell}
 use Rattle.geometry.specs.declared.Extent.{Extent}
 use Rattle.geometry.specs.declared.Point.{Point}
-use Rattle.geometry.specs.declared.Place.{Place}
-use Rattle.geometry.specs.declared.Place.TheVariants.{At, Outside}
-use Rattle.geometry.specs.declared.Visit.{Visit}
 use Rattle.entries.specs.Fields.{is_blit}
 use Rattle.entries.specs.declared.fields.Command.{Command}
 use Rattle.registers.specs.declared.file.Registers.{Registers}
 use Rattle.registers.specs.declared.dashes.Pattern.{Pattern}
 use Rattle.tiles.specs.Tiles.{pixel_of}
 use Rattle.tiles.specs.declared.Fill.{Fill}
-use Rattle.sources.specs.Sources.{read_from, keyed, read_at, copied_at, copied_of, by_bit, stippled_at, stippled_of, tiled_at, tiled_of, read_of, blit_of, dash_of, source_of}
-use Rattle.sources.specs.declared.Source.{Source}
-use Rattle.sources.specs.declared.Source.TheVariants.{Value, Nothing}
-
-pub copied-by : (c : Command) (g : Registers) (extent : Extent) (cell : Cell) (l : List ℕ) (v w : Visit) → v ≡ read_from g cell → v ≡ w
-    → copied_at c g extent l w ≡ copied_of c g extent cell l
-unfolding copied_of
-copied-by c g extent cell l v w p q = ap (copied_at c g extent l) (sym q ∙ p)
-
-pub read_by : (c : Command) (g : Registers) (extent : Extent) (l : List ℕ) (at : Point) (q r : Place) → q ≡ place_of extent at → q ≡ r
-    → read_at c g l r ≡ copied_at c g extent l (VisitAt at)
-read_by c g extent l at q r p s = ap (read_at c g l) (sym s ∙ p)
-
-pub key-is : (c : Command) (g : Registers) (v w : ℕ) → v ≡ w → (b : Bool) → (c.key && eqb v g.key) ≡ b
-    → cond b Nothing (Value v) ≡ keyed c g w
-key-is c g v w q b h = ap (λ t. cond t Nothing (Value v)) (sym h) ∙ ap (keyed c g) q
-
-pub stippled-by : (c : Command) (g : Registers) (extent : Extent) (cell : Cell) (l : List ℕ) (v w : Visit) → v ≡ read_from g cell → v ≡ w
-    → stippled_at c g extent l w ≡ stippled_of c g extent cell l
-unfolding stippled_of
-stippled-by c g extent cell l v w p q = ap (stippled_at c g extent l) (sym q ∙ p)
+use Rattle.sources.specs.Sources.{by_bit, stippled_at, tiled_at, tiled_of, read_of, blit_of, dash_of, source_of}
 
 -- the byte that holds a bit, as a pixel
 abbrev byte_at : Point → Point
@@ -67,47 +44,43 @@ bits_in width height p h =
     rw (le-leb origin p.x h, le-leb origin (byte_at p).x (omega arith), column p, eighth (p.x - origin) width)
 
 -- what a bit of the byte at a place draws
-abbrev bit_from : Command → Registers → List ℕ → ℕ → Place → Source
-bit_from c g l k (At i) = by_bit c g (eqb (bit (7 - k) (get_or l i 0)) 1)
-bit_from c g l k Outside = Nothing
+abbrev bit_from : Command → Registers → List ℕ → ℕ → Option ℕ → Option ℕ
+bit_from c g l k (Some i) = by_bit c g (eqb (bit (7 - k) (get_or l i 0)) 1)
+bit_from c g l k None = None
 
-module _ (c : Command) (g : Registers) (extent : Extent) (l : List ℕ) (p : Point) where
-  pub left-of-bits : p.x < origin → Nothing ≡ stippled_at c g extent l (VisitAt p)
-  left-of-bits h = rw (lt-leb origin p.x h)
-
-  pub bit-by : origin ≤ p.x → (q r : Place) → q ≡ place_of extent (byte_at p) → q ≡ r
-      → bit_from c g l ((p.x - origin) % 8) r ≡ stippled_at c g extent l (VisitAt p)
-  unfolding place_of
-  bit-by h q r s t =
-      let width = extent.width in
-      let height = extent.height in
-      ap (bit_from c g l ((p.x - origin) % 8)) (sym t ∙ s)
-      ∙ by_cases (in_buffer width height (byte_at p))
-      (λ t. rw (bits_in width height p h, t, column p))
-      (λ t. rw (bits_in width height p h, t))
+pub bit-by : (c : Command) (g : Registers) (extent : Extent) (l : List ℕ) (p : Point) (x : ℕ) → (origin ≤ p.x) × (x ≡ p.x - origin)
+    → (q : Option ℕ) → q ≡ place_of extent (record { x = origin + x / 8; y = p.y })
+    → bit_from c g l (x % 8) q ≡ stippled_at c g extent l (Some p)
+unfolding place_of
+bit-by c g extent l p x h q s =
+    let s : q ≡ place_of extent (byte_at p) = rw h.1 at s in
+    rw (h.1, s)
+    (by_cases (in_buffer extent.width extent.height (byte_at p))
+    (λ t. rw (bits_in extent.width extent.height p h.0, t, column p))
+    (λ t. rw (bits_in extent.width extent.height p h.0, t)))
 
 -- a tile's pixel, by where the cell's pixel lies in the destination
-pub tiled-by : (g : Registers) (fill : Fill) (cell : Cell) (v w : Visit) → v ≡ cell_visit (point_of g.xy1) g.xy3 cell → v ≡ w
+pub tiled-by : (g : Registers) (fill : Fill) (cell : Option Cell) (v w : Option Point) → v ≡ cell_visit (point_of g.xy1) g.xy3 cell → v ≡ w
     → tiled_at fill w ≡ tiled_of g fill cell
 unfolding tiled_of
 tiled-by g fill cell v w p q = ap (tiled_at fill) (sym q ∙ p)
 
 module _ (fill : Fill) (at : Point) where
-  pub tile-missing : fill.whole ≡ false → Nothing ≡ tiled_at fill (VisitAt at)
-  tile-missing h = second-of fill.whole (Value (pixel_of fill.tile (at.x - origin) (at.y - origin))) Nothing h
+  pub tile-missing : fill.whole ≡ false → None ≡ tiled_at fill (Some at)
+  tile-missing h = second-of fill.whole (Some (pixel_of fill.tile (at.x - origin) (at.y - origin))) None h
 
   pub tile-pixel : fill.whole ≡ true → (x y v : ℕ) → x ≡ at.x - origin → y ≡ at.y - origin → v ≡ pixel_of fill.tile x y
-      → Value v ≡ tiled_at fill (VisitAt at)
+      → Some v ≡ tiled_at fill (Some at)
   tile-pixel h x y v p q r =
-      ap Value (r ∙ ap₂ (pixel_of fill.tile) p q)
-      ∙ first_of fill.whole (Value (pixel_of fill.tile (at.x - origin) (at.y - origin))) Nothing h
+      ap Some (r ∙ ap₂ (pixel_of fill.tile) p q)
+      ∙ first_of fill.whole (Some (pixel_of fill.tile (at.x - origin) (at.y - origin))) None h
 
 -- the source, by the tests that it passes
-module _ (c : Command) (g : Registers) (p : Pattern) (extent : Extent) (fill : Fill) (cell : Cell) (display virt : List ℕ) where
-  pub source-solid : c.solid ≡ true → Value g.fore ≡ source_of c g p extent fill cell display virt
+module _ (c : Command) (g : Registers) (p : Pattern) (extent : Extent) (fill : Fill) (cell : Option Cell) (display virt : List ℕ) where
+  pub source-solid : c.solid ≡ true → Some g.fore ≡ source_of c g p extent fill cell display virt
   unfolding source_of
   source-solid h =
-      first_of c.solid (Value g.fore)
+      first_of c.solid (Some g.fore)
       (cond (is_blit c) (blit_of c g extent fill cell (cond c.from_virtual virt display)) (dash_of c g p)) h
 
   pub source-blit : c.solid ≡ false → is_blit c ≡ true
@@ -115,7 +88,7 @@ module _ (c : Command) (g : Registers) (p : Pattern) (extent : Extent) (fill : F
   unfolding source_of
   source-blit h k =
       let blit = blit_of c g extent fill cell (cond c.from_virtual virt display) in
-      first_of (is_blit c) blit (dash_of c g p) k ∙ second-of c.solid (Value g.fore) (cond (is_blit c) blit (dash_of c g p)) h
+      first_of (is_blit c) blit (dash_of c g p) k ∙ second-of c.solid (Some g.fore) (cond (is_blit c) blit (dash_of c g p)) h
 
   pub source-tiled : c.solid ≡ false → is_blit c ≡ true → c.apat ≡ true → tiled_of g fill cell ≡ source_of c g p extent fill cell display virt
   source-tiled h k a =
@@ -131,4 +104,4 @@ module _ (c : Command) (g : Registers) (p : Pattern) (extent : Extent) (fill : F
   unfolding source_of
   source-dash h k =
       let blit = blit_of c g extent fill cell (cond c.from_virtual virt display) in
-      second-of (is_blit c) blit (dash_of c g p) k ∙ second-of c.solid (Value g.fore) (cond (is_blit c) blit (dash_of c g p)) h
+      second-of (is_blit c) blit (dash_of c g p) k ∙ second-of c.solid (Some g.fore) (cond (is_blit c) blit (dash_of c g p)) h

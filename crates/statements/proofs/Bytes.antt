@@ -1,5 +1,6 @@
 -- Entries done on buffers of bytes leave buffers of bytes.
 -- Assumes nothing.
+use Rattle.std.specs.Prelude.{Option, Some, None}
 use mathlib.Core.List.{List, [], ◌∷◌}
 use Prim.Native.Nat.{ℕ, zero, suc, ◌<◌}
 use native.Mathlib.Omega.{arith}
@@ -9,11 +10,7 @@ use Rattle.lemmas.proofs.Sweeps.{set_all}
 use Rattle.raster.specs.Raster.{new_byte}
 use Rattle.raster.proofs.Wide.{new_byte-any-lt}
 use Rattle.geometry.specs.declared.Extent.{Extent}
-use Rattle.geometry.specs.declared.Place.{Place}
-use Rattle.geometry.specs.declared.Place.TheVariants.{At, Outside}
 use Rattle.entries.specs.declared.decoding.Entry.{Entry}
-use Rattle.sources.specs.declared.Source.{Source}
-use Rattle.sources.specs.declared.Source.TheVariants.{Value, Nothing}
 use Rattle.commands.specs.Visits.{command_in, shows, cell_by, target_from, source_from}
 use Rattle.commands.specs.Steps.{Scene, inked, visit_by, visit_of, visits_by, visits_of, taken_of}
 use Rattle.commands.specs.Wholes.{pixels_left, finished_by, done_by, done_of}
@@ -21,12 +18,12 @@ use Rattle.commands.specs.declared.Engine.{Engine}
 use Rattle.statements.specs.Images.{AllBytes}
 use Rattle.statements.specs.SolidLines.{Bytes}
 
-inked-bytes : (e : Engine) (o : Source) (q : Place) (l : List ℕ) → AllBytes l → AllBytes (inked e o q l)
-inked-bytes e (Value v) (At i) l h =
+inked-bytes : (e : Engine) (o : Option ℕ) (q : Option ℕ) (l : List ℕ) → AllBytes l → AllBytes (inked e o q l)
+inked-bytes e (Some v) (Some i) l h =
     set_all (λ x. x < 256) l i (new_byte (command_in e).code v (get_or l i 0) e.registers.mask)
     (new_byte-any-lt (command_in e).code v (get_or l i 0) e.registers.mask (omega arith) (h i)) h
-inked-bytes e (Value v) Outside l h = h
-inked-bytes e Nothing q l h = h
+inked-bytes e (Some v) None l h = h
+inked-bytes e None q l h = h
 
 pub visit-bytes : (extent : Extent) (s : Scene) → Bytes s → Bytes (visit_of extent s)
 unfolding visit_by

@@ -11,11 +11,11 @@ use Rattle.lemmas.proofs.Booleans.{by_cases}
 use Rattle.answers.specs.Reports.{report}
 use Rattle.tiles.specs.Tiles.{no_fill}
 use Rattle.commands.specs.Steps.{scene, fresh_engine}
-use Rattle.slots.specs.Slots.{sizes_ok}
+use Rattle.slots.specs.Slots.{sizes_ok, sizes}
 use Rattle.slots.proofs.Grounds.{NumberAlone}
 use Rattle.board.specs.Steps.{machine}
 use Rattle.board.specs.Runs.{run_call}
-use Rattle.board.specs.Calls.{Reply, answered, fresh_board, sizes, make_call, post_call, Written, store_call, write_call}
+use Rattle.board.specs.Calls.{Reply, answered, fresh_board, make_call, post_call, Written, store_call, write_call}
 use Rattle.board.specs.declared.record.Board.{Board}
 use Rattle.board.specs.Feeding.{feed_call}
 use Rattle.board.specs.Picturing.{export_call, import_call}

@@ -11,8 +11,7 @@ use Rattle.lemmas.proofs.Booleans.{by_cases, or-by}
 use Rattle.answers.specs.Reports.{Report, report}
 use Rattle.lists.specs.Spans.{span_of, first_illegal}
 use Rattle.lists.specs.Cursors.{cursor_on, entries_from, rest_of, AllLegal}
-use Rattle.lists.specs.declared.spans.Illegal.{Illegal}
-use Rattle.lists.specs.declared.spans.Illegal.TheVariants.{At, Nowhere}
+use Rattle.std.specs.Prelude.{Option, Some, None}
 use Rattle.lists.proofs.Finds.{whole-rest, list-legal}
 use Rattle.lists.proofs.Rests.{legal-left, legal-right, legal-join}
 use Rattle.commands.specs.Steps.{scene}
@@ -121,7 +120,7 @@ module _ (w : World) (v : Valid w) (start count : ℕ) where
       waits-not false c f t = absurd (false≢true t)
 
   post-done : 1 ≤ count → start + count ≤ w.board.sizes.entries → (w.board.active.taken && w.board.pending.taken) ≡ false
-      → first_illegal w.list (span_of start count) ≡ Nowhere
+      → first_illegal w.list (span_of start count) ≡ None
       → Kept w (post start count) (replied_of w (answered 0 0 (posted_of w.board start count)))
   unfolding fed
   post-done some fits free none =
@@ -146,10 +145,10 @@ module _ (w : World) (v : Valid w) (start count : ℕ) where
       }
 
   post-judges : (some : count ≡ 0 → ⊥) (fits : start + count ≤ w.board.sizes.entries)
-      (free : (w.board.active.taken && w.board.pending.taken) ≡ false) (j : Illegal) → first_illegal w.list (span_of start count) ≡ j
+      (free : (w.board.active.taken && w.board.pending.taken) ≡ false) (j : Option ℕ) → first_illegal w.list (span_of start count) ≡ j
       → Kept w (post start count) (replied_of w (post_by (judged_by j) w.board start count))
-  post-judges some fits free (At place) h = post-refused 6 place (λ e. omega arith) (λ e. omega arith) (λ e. omega arith)
-  post-judges some fits free Nowhere h = post-done (omega (arith, some)) fits free h
+  post-judges some fits free (Some place) h = post-refused 6 place (λ e. omega arith) (λ e. omega arith) (λ e. omega arith)
+  post-judges some fits free None h = post-done (omega (arith, some)) fits free h
 
   pub post-kept : Kept w (post start count) (called (post start count) w)
   unfolding called

@@ -11,8 +11,8 @@ use Rattle.registers.specs.Patterns.{in_range}
 use Rattle.lemmas.specs.Turns.{in_turn}
 use Rattle.tiles.specs.Tiles.{no_fill}
 use Rattle.commands.specs.Steps.{scene, fresh_engine}
-use Rattle.slots.specs.Slots.{sizes_ok}
-use Rattle.board.specs.Calls.{fresh_board, sizes}
+use Rattle.slots.specs.Slots.{sizes_ok, sizes}
+use Rattle.board.specs.Calls.{fresh_board}
 use Rattle.geometry.specs.declared.Extent.{Extent}
 use Rattle.lists.specs.Cursors.{entries_from}
 use Rattle.slots.specs.declared.record.Sizes.{Sizes}

@@ -1,6 +1,7 @@
 -- A SOLID line without NLST draws a stroke, whose pixels are at places of their own and from B to A the same in the opposite
 -- order. So it leaves the same picture from either end, and code 6 twice restores it: of every scene, in lists, by the calls.
 -- Assumes nothing.
+use Rattle.std.specs.Prelude.{Some}
 use mathlib.Core.Path.{◌≡◌, refl, ap, sym, ◌∙◌}
 use mathlib.Core.Bool.{Bool, true, false, not, cond, ◌&&◌, ◌||◌}
 use mathlib.Core.List.{List, [], ◌∷◌, ◌++◌}
@@ -28,12 +29,11 @@ use Rattle.geometry.proofs.Clips.{places-differ}
 use Rattle.geometry.proofs.Windows.{window-lets-through}
 use Rattle.geometry.proofs.Lines.{points-differ}
 use Rattle.geometry.proofs.Ends.{steps-turned, same-from-b}
-use Rattle.entries.specs.Fields.{command_of}
+use Rattle.entries.specs.Fields.{blits, polylines, lines, command_of}
 use Rattle.entries.specs.declared.decoding.Entry.{Entry}
 use Rattle.registers.specs.Registers.{written_of}
 use Rattle.tiles.specs.Tiles.{no_fill}
 use Rattle.tiles.specs.declared.Fill.{Fill}
-use Rattle.sources.specs.declared.Source.TheVariants.{Value}
 use Rattle.sources.proofs.Reading.{source-solid}
 use Rattle.strokes.specs.Strokes.{plotted, pixels_of, Dashed}
 use Rattle.strokes.proofs.Traced.{pixels-in-turn}
@@ -144,7 +144,7 @@ any-tile extent e tile to other t solid marked =
       buffers = λ k few.
           let f = moved_to e k (t k).pattern in
           let own = (t k).buffer in
-          let value : (tile : Fill) → Value e.registers.fore ≡ source_at extent f tile (e.visited + k) (cond to other own) (cond to own other) =
+          let value : (tile : Fill) → Some e.registers.fore ≡ source_at extent f tile (e.visited + k) (cond to other own) (cond to own other) =
           λ tile. source-solid (command_in f) f.registers f.pattern extent tile (cell_at extent f (e.visited + k)) (cond to other own) (cond to own other) solid in
           ap (λ o. inked f o (target_of extent f (e.visited + k)) own) (sym (value tile) ∙ value no_fill) ∙ marked.buffers k few;
       patterns = marked.patterns;
@@ -261,18 +261,18 @@ module _ (extent : Extent) (t : Scene) (a b : ℕ) where
   unfolding entered_by written_of
   is-line next =
       let f = with_word (taken_of extent t (writing 9 a)).engine (writing 12 b) in
-      let line = ap (λ n. eqb n 2 || eqb n 5) next.opcode in
+      let line = ap lines next.opcode in
       let all : count_of extent f ≡ pixel_count a b =
       count-is extent f line
-      ∙ (λ i. line_count (point_of (cond (eqb (next.opcode i) 5) f.last a)) (point_of b) (next.style.no-nlst i)) in
+      ∙ (λ i. line_count (point_of (cond (polylines (next.opcode i)) f.last a)) (point_of b) (next.style.no-nlst i)) in
       record {
         under-way =
-            both (ap (λ n. eqb n 1 || (eqb n 2 || eqb n 5)) next.opcode)
+            both (ap (λ o. blits o || lines o) next.opcode)
             (ap (ltb 0) all ∙ lt-ltb 0 (pixel_count a b) (omega arith));
         unvisited = refl;
         line = line;
         style = next.style;
-        start = ap (λ n. cond (eqb n 5) (triggered_from extent t a b).engine.last a) next.opcode;
+        start = ap (λ o. cond (polylines o) (triggered_from extent t a b).engine.last a) next.opcode;
         end = refl;
       }
 

@@ -3,11 +3,11 @@ use Rattle.std.specs.Prelude.{◌≡◌, true, false, List, [], ◌∷◌, ℕ, 
 use Rattle.tiles.specs.Tiles.{no_fill}
 use Rattle.commands.specs.Steps.{scene, fresh_engine}
 use Rattle.board.specs.Record.{well_formed}
-use Rattle.board.specs.Calls.{fresh_board, sizes}
+use Rattle.board.specs.Calls.{fresh_board}
 use Rattle.feeds.specs.Feeds.{feed_ok}
 use Rattle.geometry.specs.declared.Extent.{Extent}
 use Rattle.lists.specs.declared.spans.Span.{Span}
-use Rattle.slots.specs.Slots.{sizes_ok, slot_with, empty_slot, slot_of}
+use Rattle.slots.specs.Slots.{sizes_ok, sizes, slot_with, empty_slot, slot_of}
 use Rattle.slots.specs.declared.record.Sizes.{Sizes}
 use Rattle.slots.specs.declared.record.Slot.{Slot}
 use Rattle.board.specs.declared.record.Board.{Board}

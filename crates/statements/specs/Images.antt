@@ -4,7 +4,7 @@ use Rattle.std.specs.Prelude.{◌≡◌, cond, List, [], ◌∷◌, ℕ, ◌*◌
 use Rattle.answers.specs.Reports.{Report, report}
 use Rattle.tiles.specs.Tiles.{no_fill}
 use Rattle.commands.specs.Steps.{scene, fresh_engine}
-use Rattle.board.specs.Calls.{sizes}
+use Rattle.slots.specs.Slots.{sizes}
 use Rattle.pramolyt.specs.Image.{board_of}
 use Rattle.pramolyt.specs.Exports.{make_image, post_image, store_image, write_image, run_image, feed_image, export_image, import_image}
 use Rattle.statements.specs.Paper.{Call, post, store, write, run, feed, import, export, paper}

@@ -3,6 +3,7 @@
 use Rattle.std.specs.Prelude.{◌≡◌, true, false, List, [], ◌∷◌, ◌++◌, ℕ, ◌<◌, get_or}
 use Rattle.geometry.specs.declared.Extent.{Extent}
 use Rattle.entries.specs.Fields.{is_line}
+use Rattle.entries.specs.declared.fields.Opcode.TheVariants.{Line}
 use Rattle.entries.specs.declared.decoding.Entry.{Entry}
 use Rattle.entries.specs.declared.fields.Command.{Command}
 use Rattle.registers.specs.declared.file.Registers.{Registers}
@@ -81,7 +82,7 @@ abbrev pub line_from : ℕ → ℕ → List Entry
 line_from a b = writing 9 a ∷ writing 12 b ∷ []
 
 pub record LineNext (e : Engine) : Type 0 where
-  pub opcode : (command_in e).opcode ≡ 2
+  pub opcode : (command_in e).opcode ≡ Line
   pub style : Solid (command_in e)
 
 abbrev pub SameInLists : Type 0

@@ -7,12 +7,14 @@ use native.Mathlib.Nat.{mod-eq_of_lt}
 use native.Mathlib.Omega.{arith}
 use lib.Bits.{bit_and, bit_xor, and_comm, and_zero_l, xor_zero_l, xor_zero_r, and_mask, and_lt, xor_lt}
 use lib.Dec.{lit<}
+use Rattle.std.specs.Prelude.{Option, None, Some}
+use Rattle.std.specs.Option.{unwrap_or}
 use Rattle.raster.specs.Raster.{bit}
 use Rattle.raster.specs.Selectors.{drawn}
 use Rattle.raster.specs.declared.Pen.{Pen}
 use Rattle.raster.proofs.Bits.{bit-and, bit-xor, bit-fill, same_bits}
 use Rattle.raster.proofs.Normal.{taken}
-use Rattle.stipples.specs.Stipples.{bit_in, stippled}
+use Rattle.stipples.specs.Stipples.{bit_in, drawn_if, stippled}
 use Rattle.stipples.specs.Words.{byte_in, eight_of, ones_of, spread_of, zero_pen, inks_of, inked, Bytes, InksDraw}
 use Rattle.stipples.specs.declared.Stipple.{Stipple}
 use Rattle.stipples.specs.declared.Inks.{Inks}
@@ -33,22 +35,14 @@ masked true c h = sym (and_comm 255 c ∙ and_mask c 8 ∙ mod-eq_of_lt h)
 masked false c h = sym (and_zero_l c)
 
 -- the pen of a 0 on a byte
-zero-draws : (clear : Bool) (p : Pen) (d : ℕ) → d < 256 → drawn (cond clear (record { keep = 255; flip = 0 }) p) d ≡ cond clear d (drawn p d)
-zero-draws true p d h = xor_zero_r (bit_and d 255) ∙ and_mask d 8 ∙ mod-eq_of_lt h
-zero-draws false p d h = refl
+zero-draws : (back : Option Pen) (d : ℕ) → d < 256 → drawn (unwrap_or back (record { keep = 255; flip = 0 })) d ≡ drawn_if back d
+zero-draws None d h = xor_zero_r (bit_and d 255) ∙ and_mask d 8 ∙ mod-eq_of_lt h
+zero-draws (Some p) d h = refl
 
 by_bit_lem : (s : Stipple) (one : Bool) (d : ℕ) → d < 256
     → bit_xor (bit_and d (cond one s.fore.keep (zero_pen s).keep)) (cond one s.fore.flip (zero_pen s).flip) ≡ stippled s one d
 by_bit_lem s true d h = refl
-by_bit_lem s false d h = zero-draws s.clear s.back d h
-
-keep-zero : (clear : Bool) (p : Pen) → p.keep < 256 → (cond clear (record { keep = 255; flip = 0 }) p).keep < 256
-keep-zero true p h = lit< tt
-keep-zero false p h = h
-
-flip-zero : (clear : Bool) (p : Pen) → p.flip < 256 → (cond clear (record { keep = 255; flip = 0 }) p).flip < 256
-flip-zero true p h = lit< tt
-flip-zero false p h = h
+by_bit_lem s false d h = zero-draws s.back d h
 
 module _ (k bits : ℕ) (hk : k < 8) (hb : bits < 256) where
   -- a byte that a 1 and a 0 choose, in a word of eight
@@ -88,8 +82,8 @@ unfolding inked inks_of
 inks-draw s bits old k (fk, ff, bk, bf) hb hk =
     byte-drawn s bits old k (bit_xor (bit_and (spread_of bits) (inks_of s).keep_change) (inks_of s).keep)
     (bit_xor (bit_and (spread_of bits) (inks_of s).flip_change) (inks_of s).flip)
-    (word-chosen k bits hk hb s.fore.keep (zero_pen s).keep fk (keep-zero s.clear s.back bk))
-    (word-chosen k bits hk hb s.fore.flip (zero_pen s).flip ff (flip-zero s.clear s.back bf))
+    (word-chosen k bits hk hb s.fore.keep (zero_pen s).keep fk bk)
+    (word-chosen k bits hk hb s.fore.flip (zero_pen s).flip ff bf)
 
 abbrev by_products : Inks → ℕ → ℕ → ℕ
 by_products q o old =
@@ -102,5 +96,5 @@ products-draw s q o bits old e hb (fk, ff, bk, bf) is k hk =
     ap₂ (λ q o. byte_in k (by_products q o old)) is e
     ∙ byte-drawn s bits old k (bit_xor (ones_of bits * ((inks_of s).keep_change % 256)) (inks_of s).keep)
     (bit_xor (ones_of bits * ((inks_of s).flip_change % 256)) (inks_of s).flip)
-    (word-product k bits hk hb s.fore.keep (zero_pen s).keep fk (keep-zero s.clear s.back bk))
-    (word-product k bits hk hb s.fore.flip (zero_pen s).flip ff (flip-zero s.clear s.back bf))
+    (word-product k bits hk hb s.fore.keep (zero_pen s).keep fk bk)
+    (word-product k bits hk hb s.fore.flip (zero_pen s).flip ff bf)

@@ -1,5 +1,6 @@
 -- Eight pixels in one word, the first in its lowest byte.
-use Rattle.std.specs.Prelude.{◌≡◌, cond, ℕ, ◌+◌, ◌*◌, ◌/◌, ◌%◌, ◌^◌, ◌<◌}
+use Rattle.std.specs.Prelude.{◌≡◌, ℕ, ◌+◌, ◌*◌, ◌/◌, ◌%◌, ◌^◌, ◌<◌}
+use Rattle.std.specs.Option.{unwrap_or}
 use Rattle.std.specs.Int.Bits.{bit_and, bit_xor}
 use Rattle.raster.specs.declared.Pen.{Pen}
 use Rattle.stipples.specs.Stipples.{bit_in, stippled}
@@ -22,7 +23,7 @@ spread_of bits = ones_of bits * 255
 
 -- The pen of a 0: one that keeps every byte where a 0 draws nothing.
 abbrev pub zero_pen : Stipple → Pen
-zero_pen s = cond s.clear (record { keep = 255; flip = 0 }) s.back
+zero_pen s = unwrap_or s.back (record { keep = 255; flip = 0 })
 
 -- The pen of a 0 for each of eight pixels, and where the pen of a 1 differs from it.
 unfoldable pub inks_of : Stipple → Inks
@@ -41,7 +42,7 @@ inked q bits old =
 
 -- That each byte is drawn by its bit; proved in proofs/Drawing.antt.
 abbrev pub Bytes : Stipple → Type 0
-Bytes s = (s.fore.keep < 256) × (s.fore.flip < 256) × (s.back.keep < 256) × (s.back.flip < 256)
+Bytes s = (s.fore.keep < 256) × (s.fore.flip < 256) × ((zero_pen s).keep < 256) × ((zero_pen s).flip < 256)
 
 abbrev pub InksDraw : Type 0
 InksDraw =

@@ -8,12 +8,11 @@ ghost use Rattle.stipples.specs.Words.{byte_in, eight_of, ones_of, spread_of, ze
 
 use raster::Pen;
 
-// What a 1 draws with, and a 0: with `clear` a 0 draws nothing.
+// What a 1 draws with, and a 0, unless it draws nothing.
 #[derive(Clone, Copy)]
 pub struct Stipple {
     pub fore: Pen,
-    pub back: Pen,
-    pub clear: bool,
+    pub back: Option<Pen>,
 }
 
 // The same for eight pixels in a word: what a 0 keeps and flips, and where a 1 differs.
@@ -51,10 +50,7 @@ impl Stipple {
     fn zero(self) -> Pen
         ensures { result ≡ zero_pen self }
     {
-        if self.clear {
-            return Pen { keep: 255, flip: 0 };
-        }
-        self.back
+        self.back.unwrap_or(Pen { keep: 255, flip: 0 })
     }
 
     // The new byte of a pixel.
@@ -62,11 +58,13 @@ impl Stipple {
         ensures { result ≡ stippled self one old }
     {
         let fore = self.fore;
-        let back = self.back;
         if one {
             return fore.draw(old);
         }
-        if self.clear { old } else { back.draw(old) }
+        match self.back {
+            Some(back) => back.draw(old),
+            None => old,
+        }
     }
 
     pub fn inks(self) -> Inks

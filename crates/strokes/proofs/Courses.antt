@@ -7,7 +7,7 @@ use mathlib.Core.Logic.{◌⊎◌, ⊎_elim, inl, inr}
 use Prim.Native.Nat.{ℕ, zero, suc, ◌+◌, ◌-◌, ◌*◌, ◌≤◌, ◌<◌}
 use native.Mathlib.Nat.{add-mul, one-mul, mul-one, mul-le-mul, mul-le-mul_right}
 use native.Mathlib.Omega.{arith}
-use borrow.Author.Tests.{eqb-true, eq-eqb, ne_eqb, lt-ltb, le-ltb, ltb-true, ltb-false}
+use borrow.Author.Tests.{eqb-true, eq-eqb, lt-ltb, le-ltb, ltb-true, ltb-false}
 use lib.Dec.{eqb, ltb}
 use Rattle.lemmas.proofs.Booleans.{by_cases}
 use Rattle.raster.specs.declared.Pen.{Pen}
@@ -149,20 +149,6 @@ y-major : (t : Tracer) → Major t → eqb t.x.growth t.full ≡ false → t.y.g
 y-major t m h = ⊎_elim (λ e. absurd (false≢true (sym h ∙ eq-eqb t.x.growth t.full e))) (λ e. e) m
 
 module _ (width : ℕ) (t : Tracer) where
-  abbrev x-first : Course
-  x-first = course_by t.x t.y 1 width t.full
-
-  abbrev y-first : Course
-  y-first = course_by t.y t.x width 1 t.full
-
-  pub by-x : t.x.growth ≡ t.full → x-first ≡ course_of width t
-  unfolding course_of
-  by-x e = rw (eq-eqb t.x.growth t.full e)
-
-  pub by-y : (t.x.growth ≡ t.full → ⊥) → y-first ≡ course_of width t
-  unfolding course_of
-  by-y e = rw (ne_eqb t.x.growth t.full e)
-
   place_is : (course_of width t).start.place ≡ place_in width (point_on t)
   unfolding course_of course_by
   place_is =
@@ -252,7 +238,7 @@ module _ (width : ℕ) (t : Tracer) (n long : ℕ) (s : Stretch width t n long) 
   unfolding in_turn
   next-from-origin k l = from-origin (suc k) (omega arith)
 
-  places : width ≤ 4294967296 → Places (course_of width t).strides (course_of width t).start n long
+  places : width ≤ 4294967296 → Places (course_of width t) n long
   places narrow =
       record {
         some = s.some;
@@ -265,17 +251,17 @@ module _ (width : ℕ) (t : Tracer) (n long : ℕ) (s : Stretch width t n long) 
             (has_room width (tracer_after t k) narrow o.major-is (s.runs k (omega arith)) (from-origin k (omega arith)) (next-from-origin k l));
       }
 
-  pub course-places : (r : Course) → r ≡ course_of width t → width ≤ 4294967296 → Places r.strides r.start n long
+  pub course-places : (r : Course) → r ≡ course_of width t → width ≤ 4294967296 → Places r n long
   course-places r e narrow = rw e (places narrow)
 
   pub plots-on : (pen : Pen) (l m : List ℕ)
-      → m ≡ in_turn (plot_at pen (course_of width t).strides (course_of width t).start) n l → m ≡ in_turn (plot_on width pen t) n l
+      → m ≡ in_turn (plot_at pen (course_of width t)) n l → m ≡ in_turn (plot_on width pen t) n l
   plots-on pen l m e =
-      e ∙ turn_agree (plot_at pen (course_of width t).strides (course_of width t).start) (plot_on width pen t) n l
+      e ∙ turn_agree (plot_at pen (course_of width t)) (plot_on width pen t) n l
       (λ k h b. ap (λ (i : ℕ). plot pen i b) (place-on k h))
 
   pub plot-dashes-on : (d : Dashes) (o r : Dashed)
-      → r ≡ in_turn (plot_dash_at d (course_of width t).strides (course_of width t).start) n o → r ≡ in_turn (plot_dash_on width d t) n o
+      → r ≡ in_turn (plot_dash_at d (course_of width t)) n o → r ≡ in_turn (plot_dash_on width d t) n o
   plot-dashes-on d o r e =
-      e ∙ turn_agree (plot_dash_at d (course_of width t).strides (course_of width t).start) (plot_dash_on width d t) n o
+      e ∙ turn_agree (plot_dash_at d (course_of width t)) (plot_dash_on width d t) n o
       (λ k h b. ap (λ (i : ℕ). plot_dash d i b) (place-on k h))

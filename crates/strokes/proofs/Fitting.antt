@@ -1,13 +1,13 @@
--- A window that fits its buffer, and pixels that fit their line.
+-- A visible pixel of a window that fits its buffer has a place in it.
 -- Assumes nothing.
-use mathlib.Core.Path.{◌≡◌, ap, sym, ◌∙◌}
-use mathlib.Core.Bool.{Bool, true, false, ◌&&◌, and_assoc, and-false}
-use Prim.Native.Nat.{ℕ, ◌+◌, ◌-◌, ◌*◌, ◌^◌, ◌≤◌, ◌<◌}
-use native.Mathlib.Nat.{mul-le-mul, mul_comm}
+use mathlib.Core.Path.{◌≡◌}
+use mathlib.Core.Bool.{Bool, true, ◌&&◌}
+use Prim.Native.Nat.{ℕ, ◌+◌, ◌-◌, ◌*◌, ◌≤◌}
+use native.Mathlib.Nat.{mul_comm}
 use native.Mathlib.Omega.{arith}
-use borrow.Author.Tests.{leb-true, leb-false, le-leb, lt-leb}
+use borrow.Author.Tests.{leb-true}
 use lib.Dec.{leb}
-use Rattle.lemmas.proofs.Booleans.{by_cases, and_left, and_right}
+use Rattle.lemmas.proofs.Booleans.{and_left, and_right}
 use Rattle.geometry.specs.Coordinates.{origin}
 use Rattle.geometry.specs.Clip.{in_window}
 use Rattle.geometry.specs.declared.Point.{Point}
@@ -16,9 +16,6 @@ use Rattle.geometry.proofs.Clips.{area}
 use Rattle.geometry.proofs.Windows.{shown_of}
 use Rattle.strokes.specs.Strokes.{window_fits}
 use Rattle.strokes.specs.Bresenham.{Placed}
-
-pub too-low : (width : ℕ) (w : Window) (long : ℕ) → origin + 65536 < w.bottom → false ≡ window_fits width w long
-too-low width w long h = rw (lt-leb w.bottom (origin + 65536) h) (simp and-false)
 
 record Fits (width : ℕ) (w : Window) (long : ℕ) : Type 0 where
   left_in : origin ≤ w.left
@@ -54,24 +51,3 @@ placed width w long p h g =
       y-in = omega (arith, f, s);
       place-in = omega (arith, f, inside, mul_comm width (w.bottom - origin));
     }
-
--- the product of rows and width fits the machine's numbers
-pub rows_fit : (rows width : ℕ) → rows ≤ 65536 → width < 2 ^ 32 → rows * width < 2 ^ 64
-rows_fit rows width h l =
-    let most : rows * width ≤ 65536 * 4294967295 = mul-le-mul {n₁ = rows} {m₁ = width} {n₂ = 65536} {m₂ = 4294967295} (omega arith) (omega arith) in
-    omega arith
-
--- a sum's test with no sum
-pub sum_fits : (held : Bool) (first n steps : ℕ) → (held && leb n steps && leb first (steps - n)) ≡ (held && leb (first + n) steps)
-sum_fits held first n steps =
-    and_assoc held (leb n steps) (leb first (steps - n)) ∙ ap (λ t. held && t)
-    (by_cases (leb n steps)
-    (λ t.
-    let l : n ≤ steps = leb-true n steps t in
-    by_cases (leb first (steps - n))
-    (λ s. rw (t, s) (sym (le-leb (first + n) steps (omega (arith, leb-true first (steps - n) s)))))
-    (λ s. rw (t, s) (sym (lt-leb (first + n) steps (omega (arith, leb-false first (steps - n) s))))))
-    (λ t. rw t (sym (lt-leb (first + n) steps (omega (arith, leb-false n steps t))))))
-
-pub one_more : (n steps : ℕ) → n ≡ steps → steps < 65536 → n + 1 < 2 ^ 64
-one_more n steps e h = omega arith

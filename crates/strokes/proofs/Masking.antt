@@ -12,6 +12,7 @@ use lib.Bits.{bit_and, bit_xor, differ, and_comm, and_mask, and_lt, xor_lt}
 use lib.Dec.{eqb, leb, ltb}
 use lib.ListN.{length, get_or, set, length-set}
 use lib.Seq.{get_or-set_same, get_or-set_other}
+use Rattle.std.specs.Prelude.{None}
 use Rattle.lemmas.specs.Turns.{in_turn}
 use Rattle.lemmas.proofs.Booleans.{by_cases, and_left, and_right}
 use Rattle.lemmas.proofs.Sweeps.{set_all}
@@ -26,14 +27,13 @@ use Rattle.registers.proofs.Rounds.{moves-in-one-go}
 use Rattle.rows.specs.Rows.{mixed}
 use Rattle.rows.specs.declared.Mix.{Mix}
 use Rattle.strokes.specs.Strokes.{plot, dashed}
-use Rattle.strokes.specs.Bresenham.{bresenham_after, plot_dash_at, Places}
-use Rattle.strokes.specs.Phases.{pattern_of, Holds, dash_pen, back_pen}
+use Rattle.strokes.specs.Bresenham.{course_at, plot_dash_at}
+use Rattle.strokes.specs.Phases.{pattern_of, dash_pen, back_pen}
 use Rattle.strokes.specs.Masks.{goes_round, Round, mask_at, Masks, Rounds, Mixes, mix_at}
 use Rattle.strokes.specs.declared.Dashes.{Dashes}
 use Rattle.strokes.specs.declared.phases.Phase.{Phase}
-use Rattle.strokes.specs.declared.bresenham.Bresenham.{Bresenham}
-use Rattle.strokes.specs.declared.bresenham.Strides.{Strides}
-use Rattle.strokes.proofs.Dashing.{plot-dash-of}
+use Rattle.strokes.specs.declared.bresenham.Course.{Course}
+use Rattle.strokes.proofs.Dashing.{plot-dash-of, bit-of}
 
 -- what the test says
 range-parts : (c : PatternControl) (p : Pattern) → in_range c p ≡ true → (p.place < c.length) × (p.repeat < c.scale)
@@ -87,7 +87,7 @@ module _ (c : PatternControl) (p : Pattern) (turns : ℕ) (h : in_range c p ≡ 
       ap (λ (k : ℕ). (p.place + k) % c.length) gone ∙ add-mul-mod_self_right p.place turns c.length ∙ mod-eq_of_lt within.0 in
       moves-in-one-go c (turns * (c.length * c.scale)) p h ∙ (λ i. record { place = place i; repeat = repeat i })
 
-pub once-sizes : (c : PatternControl) → (0 < c.length) × (c.length ≤ 32) × (0 < c.scale) × (c.scale ≤ 8)
+once-sizes : (c : PatternControl) → (0 < c.length) × (c.length ≤ 32) × (0 < c.scale) × (c.scale ≤ 8)
     → (0 < c.length * c.scale) × (c.length * c.scale ≤ 256)
 once-sizes c h = (
   mul-le-mul {n₁ = 1} {m₁ = 1} {n₂ = c.length} {m₂ = c.scale} h.0 h.2,
@@ -107,22 +107,20 @@ round-of c h =
     }
 
 -- the mask of j pixels, and the phase after them
-pub record Masking (d : Dashes) (q : Pattern) (n : ℕ) (mask : List ℕ) (p : Phase) (j : ℕ) : Type 0 where
-  pub upto : j ≤ n
+pub record Masking (d : Dashes) (q : Pattern) (mask : List ℕ) (p : Phase) (j : ℕ) : Type 0 where
   pub long : length mask ≡ 640
   pub masks : Masks (mask_at d q) mask j
   pub phase-is : pattern_of p ≡ moves_of d.control j q
-  pub holds : Holds d.lpat p
+  pub lpat_is : p.lpat ≡ d.lpat
 
-pub masking-start : (d : Dashes) (n : ℕ) (mask : List ℕ) (p : Phase) → length mask ≡ 640 → Holds d.lpat p
-    → Masking d (pattern_of p) n mask p 0
-masking-start d n mask p long h =
+pub masking-start : (d : Dashes) (q : Pattern) (mask : List ℕ) (p : Phase) → length mask ≡ 640 → (pattern_of p ≡ q) × (p.lpat ≡ d.lpat)
+    → Masking d q mask p 0
+masking-start d q mask p long h =
     record {
-      upto = omega arith;
       long = long;
       masks = record { right = λ k l. absurd (omega (arith, l)); left = λ k l. absurd (omega (arith, l)) };
-      phase-is = turn-none (λ _. next_of d.control) (pattern_of p);
-      holds = h;
+      phase-is = h.0 ∙ turn-none (λ _. next_of d.control) q;
+      lpat_is = h.1;
     }
 
 bit_byte : (k : ℕ) → k < 2 → k * 255 ≡ cond (eqb k 1) 255 0
@@ -130,56 +128,52 @@ bit_byte zero h = refl
 bit_byte (suc zero) h = refl
 bit_byte (suc (suc k)) h = absurd (omega arith)
 
-module _ {d : Dashes} {q : Pattern} {n : ℕ} {mask : List ℕ} {p : Phase} {j b : ℕ} (o : Masking d q n mask p j)
-    (more : j < n) (fits : n ≤ 320) (byte : b ≡ p.bits % 2 * 255) where
-  mask-byte : b ≡ mask_at d q j
-  unfolding pattern_bit
+module _ {d : Dashes} {q : Pattern} {mask : List ℕ} {p : Phase} {j bit : ℕ} (o : Masking d q mask p j)
+    (more : j < 320) (bit_is : bit ≡ p.bits % 2) where
+  mask-byte : bit * 255 ≡ mask_at d q j
   mask-byte =
-      byte ∙ bit_byte (p.bits % 2) (mod-lt p.bits (omega arith))
-      ∙ ap (λ (k : ℕ). cond (eqb (k % 2) 1) 255 0) o.holds.bits_are
+      bit_byte bit (omega (arith, bit_is, mod-lt p.bits {m = 2} (omega arith)))
+      ∙ ap (λ (t : Bool). cond t 255 0) (bit-of d.lpat bit p o.lpat_is bit_is)
       ∙ ap (λ (r : Pattern). cond (pattern_bit d.lpat r) 255 0) o.phase-is
 
   abbrev masked : List ℕ
-  masked = set (set mask (320 + j) b) (319 - j) b
+  masked = set (set mask (320 + j) (bit * 255)) (319 - j) (bit * 255)
 
   mask-right : (k : ℕ) → k < j + 1 → get_or masked (320 + k) 0 ≡ mask_at d q k
   mask-right k l =
-      get_or-set_other (set mask (320 + j) b) (319 - j) (320 + k) b 0 (λ e. omega arith)
+      get_or-set_other (set mask (320 + j) (bit * 255)) (319 - j) (320 + k) (bit * 255) 0 (λ e. omega arith)
       ∙ by_cases (eqb k j)
       (λ t.
       let same : k ≡ j = eqb-true k j t in
-      rw same (get_or-set_same mask (320 + j) b 0 (rw o.long (omega arith)) ∙ mask-byte))
+      rw same (get_or-set_same mask (320 + j) (bit * 255) 0 (rw o.long (omega arith)) ∙ mask-byte))
       (λ t.
       let other = eqb-false k j t in
-      get_or-set_other mask (320 + j) (320 + k) b 0 (λ e. other (omega arith)) ∙ o.masks.right k (omega (arith, other)))
+      get_or-set_other mask (320 + j) (320 + k) (bit * 255) 0 (λ e. other (omega arith)) ∙ o.masks.right k (omega (arith, other)))
 
   mask-left : (k : ℕ) → k < j + 1 → get_or masked (319 - k) 0 ≡ mask_at d q k
   mask-left k l =
       by_cases (eqb k j)
       (λ t.
       let same : k ≡ j = eqb-true k j t in
-      let inside : 319 - j < length (set mask (320 + j) b) = rw (length-set mask (320 + j) b, o.long) (omega arith) in
-      rw same (get_or-set_same (set mask (320 + j) b) (319 - j) b 0 inside ∙ mask-byte))
+      let inside : 319 - j < length (set mask (320 + j) (bit * 255)) = rw (length-set mask (320 + j) (bit * 255), o.long) (omega arith) in
+      rw same (get_or-set_same (set mask (320 + j) (bit * 255)) (319 - j) (bit * 255) 0 inside ∙ mask-byte))
       (λ t.
       let other = eqb-false k j t in
-      get_or-set_other (set mask (320 + j) b) (319 - j) (319 - k) b 0 (λ e. other (omega arith))
-      ∙ get_or-set_other mask (320 + j) (319 - k) b 0 (λ e. omega arith) ∙ o.masks.left k (omega (arith, other)))
+      get_or-set_other (set mask (320 + j) (bit * 255)) (319 - j) (319 - k) (bit * 255) 0 (λ e. other (omega arith))
+      ∙ get_or-set_other mask (320 + j) (319 - k) (bit * 255) 0 (λ e. omega arith) ∙ o.masks.left k (omega (arith, other)))
 
-  pub masking-turn : {r : Phase} → (pattern_of r ≡ next_of d.control (pattern_of p)) × Holds d.lpat r → Masking d q n masked r (j + 1)
+  pub masking-turn : {r : Phase} → (pattern_of r ≡ next_of d.control (pattern_of p)) × (r.lpat ≡ p.lpat) → Masking d q masked r (j + 1)
   masking-turn {r} next =
       record {
-        upto = omega arith;
-        long = length-set (set mask (320 + j) b) (319 - j) b ∙ length-set mask (320 + j) b ∙ o.long;
+        long = length-set (set mask (320 + j) (bit * 255)) (319 - j) (bit * 255) ∙ length-set mask (320 + j) (bit * 255) ∙ o.long;
         masks = record { right = mask-right; left = mask-left };
         phase-is = turn_more (λ _. next_of d.control) q j (pattern_of p) (pattern_of r) o.phase-is next.0;
-        holds = next.1;
+        lpat_is = next.1 ∙ o.lpat_is;
       }
 
-pub masking-end : {d : Dashes} {q r : Pattern} {n : ℕ} {mask : List ℕ} {p : Phase} {j : ℕ} → Masking d q n mask p j → n ≤ j → q ≡ r
-    → Masks (mask_at d r) mask n
-masking-end {d} {q} {r} {n} {mask} {p} {j} o h e =
-    let same : j ≡ n = let l = o.upto in omega arith in
-    rw (← e, ← same) o.masks
+pub masking-end : {d : Dashes} {q : Pattern} {n : ℕ} {mask : List ℕ} {p : Phase} {j : ℕ} → Masking d q mask p j → j ≡ n
+    → Masks (mask_at d q) mask n
+masking-end o same = rw (← same) o.masks
 
 -- a bit of the mask picks the pen
 xor-twice : (a b : ℕ) → a < 256 → b < 256 → bit_xor (bit_xor a b) b ≡ a
@@ -204,8 +198,7 @@ abbrev mix_by : Pen → Pen → Mix
 mix_by a b =
     record {
       selectors = record { both = bit_xor a.keep b.keep; old = b.keep; source = bit_xor a.flip b.flip; none = b.flip };
-      keyed = false;
-      key = 0;
+      key = None;
     }
 
 module _ (a b : Pen) (ak : a.keep < 256) (af : a.flip < 256) (bk : b.keep < 256) (bf : b.flip < 256) where
@@ -227,80 +220,88 @@ mixes d b e ak af bk bf =
     }
 
 -- a row in dashes, by its mask
-module _ (d : Dashes) (mix : Mix) (w : Mixes d mix) (s : Strides) (c : Bresenham) (q : Pattern) (l : List ℕ)
+module _ (d : Dashes) (mix : Mix) (w : Mixes d mix) (course : Course) (q : Pattern) (l : List ℕ)
     (small : (k : ℕ) → get_or l k 0 < 256) where
   abbrev draw_at : ℕ → List ℕ → List ℕ
-  draw_at k t = mix_at mix s c k (mask_at d q k) t
+  draw_at k t = mix_at mix course k (mask_at d q k) t
 
-  draw-is : (k : ℕ) (t : List ℕ) → draw_at k t ≡ plot (dash_pen d (moves_of d.control k q)) (bresenham_after s c k).place t
+  draw-is : (k : ℕ) (t : List ℕ) → draw_at k t ≡ plot (dash_pen d (moves_of d.control k q)) (course_at course k).place t
   draw-is k t =
-      ap (set t (bresenham_after s c k).place)
-      (w.draws (pattern_bit d.lpat (moves_of d.control k q)) (get_or t (bresenham_after s c k).place 0))
+      ap (set t (course_at course k).place)
+      (w.draws (pattern_bit d.lpat (moves_of d.control k q)) (get_or t (course_at course k).place 0))
 
   all_small : (n k : ℕ) → get_or (in_turn draw_at n l) k 0 < 256
   unfolding in_turn
   all_small zero k = small k
   all_small (suc n) k =
       let t = in_turn draw_at n l in
-      let at = (bresenham_after s c n).place in
+      let at = (course_at course n).place in
       rw (draw-is n t)
       (set_all (λ (x : ℕ). x < 256) t at (drawn (dash_pen d (moves_of d.control n q)) (get_or t at 0))
       (w.bytes (pattern_bit d.lpat (moves_of d.control n q)) (get_or t at 0) (all_small n at)) (all_small n) k)
 
-  dashes-masked : (n : ℕ) → dashed (in_turn draw_at n l) (moves_of d.control n q) ≡ in_turn (plot_dash_at d s c) n (dashed l q)
+  dashes-masked : (n : ℕ) → dashed (in_turn draw_at n l) (moves_of d.control n q) ≡ in_turn (plot_dash_at d course) n (dashed l q)
   unfolding in_turn
   dashes-masked zero = refl
   dashes-masked (suc n) =
       let t = in_turn draw_at n l in
-      let at = (bresenham_after s c n).place in
+      let at = (course_at course n).place in
       let r = moves_of d.control n q in
       plot-dash-of d at t r (next_of d.control r) (dash_pen d r) (mixed mix (mask_at d q n) (get_or t at 0)) (all_small n) refl
       (w.draws (pattern_bit d.lpat r) (get_or t at 0)) refl
-      ∙ ap (plot_dash_at d s c n) (dashes-masked n)
+      ∙ ap (plot_dash_at d course n) (dashes-masked n)
 
   pub dashes-mixed : (n : ℕ) (m : List ℕ) (r : Pattern) → m ≡ in_turn draw_at n l → r ≡ moves_of d.control n q
-      → dashed m r ≡ in_turn (plot_dash_at d s c) n (dashed l q)
+      → dashed m r ≡ in_turn (plot_dash_at d course) n (dashed l q)
   dashes-mixed n m r e f = (λ i. dashed (e i) (f i)) ∙ dashes-masked n
 
--- rounds of the mask: l₀ has j pixels mixed, and the mask begins anew
-pub record Mixing (mix : Mix) (s : Strides) (start : Bresenham) (m n : ℕ) (mask l₀ l : List ℕ) (j : ℕ) : Type 0 where
-  pub upto : j ≤ n
+-- rounds of the mask: l₀ has j of n pixels mixed, and the mask begins anew
+pub record Mixing (mix : Mix) (course : Course) (m n : ℕ) (mask l₀ l : List ℕ) (j : ℕ) : Type 0 where
   pub as_long : length l ≡ length l₀
-  pub bytes : (pixel : ℕ → ℕ) → Rounds pixel mask m → l ≡ in_turn (λ k. mix_at mix s start k (pixel k)) j l₀
-  pub anew : (pixel : ℕ → ℕ) → Rounds pixel mask m → j < n → (i : ℕ) → pixel (j + i) ≡ pixel i
+  pub bytes : (pixel : ℕ → ℕ) → Rounds pixel mask m → l ≡ in_turn (λ k. mix_at mix course k (pixel k)) (min j n) l₀
+  pub anew : (pixel : ℕ → ℕ) → Rounds pixel mask m → (i : ℕ) → pixel (j + i) ≡ pixel i
 
-pub mixing-start : (mix : Mix) (s : Strides) (start : Bresenham) (m n : ℕ) (mask l : List ℕ) → Mixing mix s start m n mask l l 0
-mixing-start mix s start m n mask l =
+pub mixing-start : (mix : Mix) (course : Course) (m n : ℕ) (mask l : List ℕ) → Mixing mix course m n mask l l 0
+mixing-start mix course m n mask l =
     record {
-      upto = omega arith;
       as_long = refl;
-      bytes = λ pixel r. turn-none (λ k. mix_at mix s start k (pixel k)) l;
-      anew = λ pixel r h i. ap pixel (omega arith);
+      bytes =
+          λ pixel r.
+          let draw : ℕ → List ℕ → List ℕ = λ k. mix_at mix course k (pixel k) in
+          turn-none draw l ∙ ap (λ (k : ℕ). in_turn draw k l) (omega arith);
+      anew = λ pixel r i. ap pixel (omega arith);
     }
 
 fewer-masks : {pixel : ℕ → ℕ} {mask : List ℕ} {m n : ℕ} → Masks pixel mask m → n ≤ m → Masks pixel mask n
 fewer-masks o h = record { right = λ k l. o.right k (omega (arith, h)); left = λ k l. o.left k (omega (arith, h)) }
 
-pub mixing-turn : {mix : Mix} {s : Strides} {start : Bresenham} {m n : ℕ} {mask l₀ l t : List ℕ} {j k : ℕ}
-    → Mixing mix s start m n mask l₀ l j → j < n → k ≡ min m (n - j) → length t ≡ length l
-    → ((pixel : ℕ → ℕ) → Masks pixel mask k → t ≡ in_turn (λ i. mix_at mix s start (j + i) (pixel i)) k l)
-    → Mixing mix s start m n mask l₀ t (j + k)
-mixing-turn {mix} {s} {start} {m} {n} {mask} {l₀} {l} {t} {j} {k} o more e as_long drew =
+pub mixing-turn : {mix : Mix} {course : Course} {m n : ℕ} {mask l₀ l t : List ℕ} {j k : ℕ}
+    → Mixing mix course m n mask l₀ l j → j < n → k ≡ min m (n - j) → length t ≡ length l
+    → ((pixel : ℕ → ℕ) → Masks pixel mask k → t ≡ in_turn (λ i. mix_at mix course (j + i) (pixel i)) k l)
+    → Mixing mix course m n mask l₀ t (j + m)
+mixing-turn {mix} {course} {m} {n} {mask} {l₀} {l} {t} {j} {k} o more e as_long drew =
     record {
-      upto = omega arith;
       as_long = as_long ∙ o.as_long;
       bytes =
           λ pixel r.
-          let draw : ℕ → List ℕ → List ℕ = λ i. mix_at mix s start i (pixel i) in
+          let draw : ℕ → List ℕ → List ℕ = λ i. mix_at mix course i (pixel i) in
+          let before : min j n ≡ j = omega arith in
+          let after : j + k ≡ min (j + m) n = omega arith in
           drew pixel (fewer-masks r.first (omega arith))
-          ∙ turn_agree (λ i. mix_at mix s start (j + i) (pixel i)) (λ i. draw (j + i)) k l
-          (λ i h u. ap (λ (x : ℕ). mix_at mix s start (j + i) x u) (sym (o.anew pixel r more i)))
-          ∙ ap (in_turn (λ i. draw (j + i)) k) (o.bytes pixel r) ∙ turn-join draw l₀ j k;
+          ∙ turn_agree (λ i. mix_at mix course (j + i) (pixel i)) (λ i. draw (j + i)) k l
+          (λ i h u. ap (λ (x : ℕ). mix_at mix course (j + i) x u) (sym (o.anew pixel r i)))
+          ∙ ap (in_turn (λ i. draw (j + i)) k) (o.bytes pixel r ∙ ap (λ (i : ℕ). in_turn draw i l₀) before) ∙ turn-join draw l₀ j k
+          ∙ ap (λ (i : ℕ). in_turn draw i l₀) after;
       anew =
-          λ pixel r h i.
-          let whole : j + k + i ≡ m + (j + i) = omega arith in
-          ap pixel whole ∙ r.again (j + i) ∙ o.anew pixel r more i;
+          λ pixel r i.
+          let whole : j + m + i ≡ m + (j + i) = omega arith in
+          ap pixel whole ∙ r.again (j + i) ∙ o.anew pixel r i;
     }
+
+pub mixing-end : {mix : Mix} {course : Course} {m n : ℕ} {mask l₀ l : List ℕ} {j : ℕ} → Mixing mix course m n mask l₀ l j → n ≤ j
+    → (pixel : ℕ → ℕ) → Rounds pixel mask m → l ≡ in_turn (λ k. mix_at mix course k (pixel k)) n l₀
+mixing-end {mix} {course} {m} {n} {mask} {l₀} {l} {j} o h pixel r =
+    o.bytes pixel r ∙ ap (λ (i : ℕ). in_turn (λ k. mix_at mix course k (pixel k)) i l₀) (omega arith)
 
 pub rounds-of : (d : Dashes) (q : Pattern) (mask : List ℕ) (m : ℕ) → Masks (mask_at d q) mask m → Round d.control m
     → in_range d.control q ≡ true → Rounds (mask_at d q) mask m
@@ -311,14 +312,4 @@ rounds-of d q mask m o r range =
           λ k.
           ap (λ (p : Pattern). cond (pattern_bit d.lpat p) 255 0)
           (sym (turn-join (λ _. next_of d.control) q m k) ∙ ap (moves_of d.control k) (r.back q range));
-    }
-
--- the first pixels of a course
-pub fewer-places : {s : Strides} {start : Bresenham} {n long k : ℕ} → Places s start n long → 0 < k → k ≤ n → Places s start k long
-fewer-places p some h =
-    record {
-      some = some;
-      slack-some = p.slack-some;
-      inside = λ i l. p.inside i (omega (arith, h));
-      moves = λ i l. p.moves i (omega (arith, h));
     }

@@ -1,21 +1,23 @@
 -- One pixel, by whether it is visible.
 -- Assumes nothing.
 use mathlib.Core.Path.{◌≡◌, refl, ap, ◌∙◌}
-use mathlib.Core.Bool.{Bool, true, false, cond, not, ◌&&◌}
+use mathlib.Core.Bool.{Bool, true, false, cond}
 use mathlib.Core.List.{List}
 use Prim.Native.Nat.{ℕ, zero, suc, ◌<◌}
 use native.Mathlib.Nat.{mod-eq_of_lt}
 use lib.Bits.{bit_and, xor_zero_r, xor_zero_l, and_zero_r, and_mask}
 use lib.ListN.{get_or, set}
 use lib.Seq.{set-get_or}
+use Rattle.std.specs.Prelude.{Option, None, Some}
+use Rattle.std.specs.Option.{unwrap_or}
 use Rattle.lemmas.specs.Turns.{in_turn}
 use Rattle.raster.specs.Selectors.{drawn}
 use Rattle.raster.specs.declared.Pen.{Pen}
 use Rattle.geometry.specs.Clip.{in_window, place_in}
 use Rattle.geometry.specs.declared.Point.{Point}
 use Rattle.geometry.specs.declared.Window.{Window}
-use Rattle.registers.specs.Patterns.{pattern_bit, next_of, moves_of}
-use Rattle.strokes.specs.Strokes.{plot, plotted, Dashed, dashed, dash}
+use Rattle.registers.specs.Patterns.{next_of, moves_of}
+use Rattle.strokes.specs.Strokes.{plot, plotted, Dashed, dashed, bit_pen, drawn_by, dash}
 use Rattle.strokes.specs.Phases.{clear_pen}
 use Rattle.strokes.specs.Bresenham.{plot_dash}
 use Rattle.strokes.specs.declared.Dashes.{Dashes}
@@ -35,11 +37,11 @@ pub clear-plot : (place : ℕ) (l : List ℕ) → get_or l place 0 < 256 → plo
 clear-plot place l h = ap (set l place) (clear-drawn (get_or l place 0) h) ∙ set-get_or l place 0
 
 -- what the chosen pen draws, where the clear pen draws nothing
-pub chosen-draws : (t c : Bool) (fore back : Pen) (f : Pen → List ℕ) (l : List ℕ) → f clear_pen ≡ l
-    → f (cond t fore (cond c clear_pen back)) ≡ cond (not t && c) l (f (cond t fore back))
-chosen-draws true c fore back f l e = refl
-chosen-draws false true fore back f l e = e
-chosen-draws false false fore back f l e = refl
+pub chosen-draws : (t : Bool) (fore : Pen) (back : Option Pen) (f : Pen → List ℕ) (l : List ℕ) → f clear_pen ≡ l
+    → f (cond t fore (unwrap_or back clear_pen)) ≡ drawn_by (cond t (Some fore) back) f l
+chosen-draws true fore back f l e = refl
+chosen-draws false fore None f l e = e
+chosen-draws false fore (Some pen) f l e = refl
 
 module _ (width : ℕ) (w : Window) (p : Point) (l : List ℕ) where
   pub plot-hidden : (pen : Pen) → in_window w p ≡ false → l ≡ plotted width w pen p l
@@ -58,11 +60,11 @@ hidden_dash d s = dashed s.buffer (next_of d.control s.pattern)
 pub dash-hidden : (width : ℕ) (w : Window) (p : Point) (d : Dashes) (s : Dashed) → in_window w p ≡ false → dash width w d p s ≡ hidden_dash d s
 unfolding dash plotted
 dash-hidden width w p d s h =
-    rw h (λ i. dashed (same (not (pattern_bit d.lpat s.pattern) && d.clear) s.buffer i) (next_of d.control s.pattern))
+    rw h (λ i. dashed (same (bit_pen d s.pattern) s.buffer i) (next_of d.control s.pattern))
   where
-    same : {A : Type 0} (t : Bool) (x : A) → cond t x x ≡ x
-    same true x = refl
-    same false x = refl
+    same : (o : Option Pen) (l : List ℕ) → drawn_by o (λ pen. l) l ≡ l
+    same None l = refl
+    same (Some pen) l = refl
 
 pub hidden-all : (d : Dashes) (n : ℕ) (s : Dashed) → in_turn (λ _. hidden_dash d) n s ≡ dashed s.buffer (moves_of d.control n s.pattern)
 unfolding in_turn
@@ -73,6 +75,3 @@ pub plot-dash-visible : (width : ℕ) (w : Window) (p : Point) (d : Dashes) (s :
     → plot_dash d (place_in width p) s ≡ dash width w d p s
 unfolding dash plot_dash plotted
 plot-dash-visible width w p d s h = rw h
-
-pub chosen-yes : {A : Type 0} (t : Bool) (a b c : A) → t ≡ true → c ≡ a → c ≡ cond t a b
-chosen-yes t a b c e f = rw e f

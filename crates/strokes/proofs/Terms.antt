@@ -2,12 +2,12 @@
 -- Assumes nothing.
 use mathlib.Core.Path.{◌≡◌, ap, sym, ◌∙◌}
 use mathlib.Core.Logic.{⊎_elim, inl, inr}
-use Prim.Native.Nat.{ℕ, zero, suc, ◌+◌, ◌-◌, ◌*◌, ◌/◌, ◌%◌, ◌≤◌, ◌<◌, min, max}
-use native.Mathlib.Nat.{add-mul, mul-add, mul-suc, mul_assoc, mul_left_comm, one-mul, mul-le-mul, mul-le-mul_left, mul-le-mul_right}
-use native.Mathlib.Nat.{div-add-mod, mod-lt, div-le_self}
+use Prim.Native.Nat.{ℕ, zero, suc, ◌+◌, ◌-◌, ◌*◌, ◌/◌, ◌%◌, ◌≤◌, ◌<◌}
+use native.Mathlib.Nat.{add-mul, mul-add, mul-suc, mul_assoc, mul_left_comm, one-mul, mul-le-mul_left}
+use native.Mathlib.Nat.{div-add-mod, mod-lt}
 use native.Mathlib.Omega.{arith}
-use borrow.Author.Tests.{leb-true, leb-false, ltb-true, ltb-false}
-use lib.Dec.{leb, ltb}
+use borrow.Author.Tests.{ltb-true, ltb-false}
+use lib.Dec.{ltb}
 use Rattle.lemmas.proofs.Booleans.{by_cases}
 use Rattle.geometry.specs.Line.{exact, distance, nearest_of}
 use Rattle.geometry.proofs.Lines.{Near, near, near-unique, below, le_of_not_lt, parts}
@@ -117,29 +117,6 @@ exact-down n i a b l o =
     let same : i * a ≡ i * (b + (a - b)) = ap (λ (k : ℕ). i * k) (omega arith) in
     omega (arith, same, mul-add i b (a - b), parts n i a l)
 
--- the first pixel's terms
-pub first_on : (n a b u : ℕ) → Axis n a b → u ≡ 1 - (a - b)
-    → On n 0 a b (record { coordinate = a; error = n - u; growth = 2 * (max a b - min a b); up = u; down = 1 - u })
-first_on n a b u x e =
-    let at = first-exact n a b in
-    by_cases (leb a b)
-    (λ t.
-    let one : u ≡ 1 = omega (arith, leb-true a b t) in
-    record {
-      small = omega (arith, x.some);
-      slope = x.slope;
-      grows = omega arith;
-      way = inl (record { order = leb-true a b t; up_is = one; down_is = omega arith; term = omega (arith, x.some, at) });
-    })
-    (λ t.
-    let none : u ≡ 0 = omega (arith, leb-false a b t) in
-    record {
-      small = omega (arith, x.some);
-      slope = x.slope;
-      grows = omega arith;
-      way = inr (record { order = omega (arith, leb-false a b t); up_is = none; down_is = omega arith; term = omega (arith, at) });
-    })
-
 -- i pixels on from the first
 module _ (n i a b : ℕ) (g : Stepper) (x : Axis n a b) (l : i ≤ n) (o : On n 0 a b g) where
   abbrev turns : ℕ
@@ -208,16 +185,3 @@ module _ (n i a b : ℕ) (g : Stepper) (x : Axis n a b) (l : i ≤ n) (o : On n 
             (λ w. inr (record { order = w.order; up_is = w.up_is; down_is = w.down_is; term = down-term w }))
             o.way;
       })
-
--- no product is too large for the machine
-pub leap-room : (full i : ℕ) (g : Stepper) → Leaps full i g
-    → (i * g.growth ≤ 281474976710656) × (g.up * (grown i g / full) ≤ 562949953421312) × (g.down * (grown i g / full) ≤ 562949953421312)
-leap-room full i g l =
-    let r = l.room in
-    let far : i * g.growth ≤ 281474976710656 =
-    mul-le-mul {n₁ = i} {m₁ = g.growth} {n₂ = 65536} {m₂ = 4294967296} l.pixels-few (omega (arith, r.full-most, r.growth-most)) in
-    let most : grown i g / full ≤ 562949953421312 = omega (arith, div-le_self (grown i g) full, r.error-less, r.full-most, far) in
-    (far, once g.up (grown i g / full) r.up-most most, once g.down (grown i g / full) r.down-most most)
-  where
-    once : (k m : ℕ) → k ≤ 1 → m ≤ 562949953421312 → k * m ≤ 562949953421312
-    once k m h l = omega (arith, l, mul-le-mul_right {m = k} {n = 1} m h, one-mul m)

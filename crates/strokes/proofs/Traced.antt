@@ -50,10 +50,9 @@ module _ (v w : ℕ) (some : 0 < steps_of (point_of v) (point_of w)) where
         slope = y-slope (point_of v) (point_of w);
       }
 
-pub traces-of : (a b p q : Point) (n i : ℕ) (x y : Stepper) → p ≡ a → q ≡ b → n ≡ steps_of a b
-    → On n i p.x q.x x → On n i p.y q.y y → Traces a b i (record { x = x; y = y; full = 2 * n })
-traces-of a b p q n i x y e f g u v =
-    record { along-x = rw (e, f, g) at u; along-y = rw (e, f, g) at v; full_is = ap (λ (k : ℕ). 2 * k) g }
+pub traces-of : (a b : Point) (n i : ℕ) (x y : Stepper) → n ≡ steps_of a b → On n i a.x b.x x → On n i a.y b.y y
+    → Traces a b i (record { x = x; y = y; full = 2 * n })
+traces-of a b n i x y e u v = record { along-x = rw e at u; along-y = rw e at v; full_is = ap (λ (k : ℕ). 2 * k) e }
 
 module _ (a b : Point) where
   traces-point : (i : ℕ) (t : Tracer) → 0 < steps_of a b → Traces a b i t → point_on t ≡ line_point a b i
@@ -80,20 +79,19 @@ module _ (a b : Point) where
       subst (λ (j : ℕ). Traces a b j (traced (tracer_after t k))) one
       (traces-next (i + k) (tracer_after t k) (omega arith) (traces-after i t k (omega arith) o))
 
-traces-room : (v w i : ℕ) (t : Tracer) → 0 < steps_of (point_of v) (point_of w) → i ≤ steps_of (point_of v) (point_of w)
-    → Traces (point_of v) (point_of w) i t → RoomBoth t
-traces-room v w i t some l o =
-    let n = steps_of (point_of v) (point_of w) in
-    record {
-      x-room = rw o.full_is (on_room n i (point_of v).x (point_of w).x t.x o.along-x (x-axis v w some) l);
-      y-room = rw o.full_is (on_room n i (point_of v).y (point_of w).y t.y o.along-y (y-axis v w some) l);
-    }
+-- a line that the machine draws
+module _ (a b : Point) (x : Axis (steps_of a b) a.x b.x) (y : Axis (steps_of a b) a.y b.y) where
+  traces-room : (i : ℕ) (t : Tracer) → i ≤ steps_of a b → Traces a b i t → RoomBoth t
+  traces-room i t l o =
+      record {
+        x-room = rw o.full_is (on_room (steps_of a b) i a.x b.x t.x o.along-x x l);
+        y-room = rw o.full_is (on_room (steps_of a b) i a.y b.y t.y o.along-y y l);
+      }
 
-pub traces-run : (v w first n : ℕ) (t : Tracer) → 0 < steps_of (point_of v) (point_of w) → first + n ≤ steps_of (point_of v) (point_of w) + 1
-    → Traces (point_of v) (point_of w) first t → Runs t n
-traces-run v w first n t some l o k h =
-    let on : first + k ≤ steps_of (point_of v) (point_of w) = within first k n (steps_of (point_of v) (point_of w)) h l in
-    traces-room v w (first + k) (tracer_after t k) some on (traces-after (point_of v) (point_of w) first t k on o)
+  pub traces-run : (first n : ℕ) (t : Tracer) → first + n ≤ steps_of a b + 1 → Traces a b first t → Runs t n
+  traces-run first n t l o k h =
+      let on : first + k ≤ steps_of a b = within first k n (steps_of a b) h l in
+      traces-room (first + k) (tracer_after t k) on (traces-after a b first t k on o)
 
 -- the line's pixels, in turn
 pub pixels-in-turn : (width : ℕ) (w : Window) (pen : Pen) (a b : Point) (first n : ℕ) (l : List ℕ)

@@ -1,11 +1,12 @@
 -- The places of a stretch of a line that is visible whole, by Bresenham's algorithm.
-use Rattle.std.specs.Prelude.{◌≡◌, cond, not, ◌&&◌, List, ◌⊎◌, ℕ, ◌+◌, ◌-◌, ◌*◌, ◌≤◌, ◌<◌, eqb, ltb}
+use Rattle.std.specs.Prelude.{◌≡◌, cond, List, ◌⊎◌, ℕ, ◌+◌, ◌-◌, ◌*◌, ◌≤◌, ◌<◌, eqb, ltb}
+use Rattle.raster.specs.Selectors.{drawn}
 use Rattle.raster.specs.declared.Pen.{Pen}
 use Rattle.geometry.specs.Coordinates.{origin}
 use Rattle.geometry.specs.declared.Point.{Point}
-use Rattle.registers.specs.Patterns.{pattern_bit, next_of}
+use Rattle.registers.specs.Patterns.{next_of}
 use Rattle.geometry.specs.Clip.{place_in}
-use Rattle.strokes.specs.Strokes.{plot, Dashed}
+use Rattle.strokes.specs.Strokes.{plot, Dashed, bit_pen, drawn_by}
 use Rattle.lemmas.specs.Turns.{in_turn}
 use Rattle.strokes.specs.Tracers.{point_on, tracer_after, Runs}
 use Rattle.strokes.specs.declared.Dashes.{Dashes}
@@ -60,12 +61,16 @@ unfoldable pub course_of : ℕ → Tracer → Course
 course_of width t =
     cond (eqb t.x.growth t.full) (course_by t.x t.y 1 width t.full) (course_by t.y t.x width 1 t.full)
 
+-- Pixel k of a course.
+abbrev pub course_at : Course → ℕ → Bresenham
+course_at o k = bresenham_after o.strides o.start k
+
 -- The places of n pixels, at least one, are in the buffer, and each but the last can move on.
-pub record Places (s : Strides) (c : Bresenham) (n long : ℕ) : Type 0 where
+pub record Places (o : Course) (n long : ℕ) : Type 0 where
   pub some : 0 < n
-  pub slack-some : 0 < c.slack
-  pub inside : (k : ℕ) → k < n → (bresenham_after s c k).place < long
-  pub moves : (k : ℕ) → k + 1 < n → Moves s (bresenham_after s c k)
+  pub slack-some : 0 < o.start.slack
+  pub inside : (k : ℕ) → k < n → (course_at o k).place < long
+  pub moves : (k : ℕ) → k + 1 < n → Moves o.strides (course_at o k)
 
 -- Each place is next to the one before it.
 pub record InRow (s : Strides) : Type 0 where
@@ -76,18 +81,20 @@ pub record InRow (s : Strides) : Type 0 where
 unfoldable pub plot_dash : Dashes → ℕ → Dashed → Dashed
 plot_dash d place s =
     record {
-      buffer =
-          cond (not (pattern_bit d.lpat s.pattern) && d.clear) s.buffer
-          (plot (cond (pattern_bit d.lpat s.pattern) d.fore d.back) place s.buffer);
+      buffer = drawn_by (bit_pen d s.pattern) (λ pen. plot pen place s.buffer) s.buffer;
       pattern = next_of d.control s.pattern;
     }
 
--- At pixel k of a course.
-abbrev pub plot_at : Pen → Strides → Bresenham → ℕ → List ℕ → List ℕ
-plot_at pen s c k = plot pen (bresenham_after s c k).place
+-- What makes a new byte of an old one draws as a pen does.
+abbrev pub Draws : Pen → (ℕ → ℕ → Type 0) → Type 0
+Draws pen makes = (old new : ℕ) → old < 256 → makes old new → new ≡ drawn pen old
 
-abbrev pub plot_dash_at : Dashes → Strides → Bresenham → ℕ → Dashed → Dashed
-plot_dash_at d s c k = plot_dash d (bresenham_after s c k).place
+-- At pixel k of a course.
+abbrev pub plot_at : Pen → Course → ℕ → List ℕ → List ℕ
+plot_at pen o k = plot pen (course_at o k).place
+
+abbrev pub plot_dash_at : Dashes → Course → ℕ → Dashed → Dashed
+plot_dash_at d o k = plot_dash d (course_at o k).place
 
 -- At pixel k from a tracer on.
 abbrev pub plot_on : ℕ → Pen → Tracer → ℕ → List ℕ → List ℕ

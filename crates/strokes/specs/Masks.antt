@@ -7,11 +7,10 @@ use Rattle.registers.specs.Patterns.{pattern_bit, moves_of, in_range}
 use Rattle.registers.specs.declared.dashes.Pattern.{Pattern}
 use Rattle.rows.specs.Rows.{mixed}
 use Rattle.rows.specs.declared.Mix.{Mix}
-use Rattle.strokes.specs.Bresenham.{bresenham_after}
+use Rattle.strokes.specs.Bresenham.{course_at}
 use Rattle.strokes.specs.Phases.{back_pen}
 use Rattle.strokes.specs.declared.Dashes.{Dashes}
-use Rattle.strokes.specs.declared.bresenham.Bresenham.{Bresenham}
-use Rattle.strokes.specs.declared.bresenham.Strides.{Strides}
+use Rattle.strokes.specs.declared.bresenham.Course.{Course}
 
 abbrev pub goes_round : PatternControl → Pattern → ℕ → Bool
 goes_round c p n = leb (64 * c.scale) n && leb n 65536 && leb c.length 32 && leb c.scale 8 && in_range c p
@@ -41,16 +40,16 @@ pub record Mixes (d : Dashes) (mix : Mix) : Type 0 where
   pub bytes : (t : Bool) (old : ℕ) → old < 256 → drawn (cond t d.fore (back_pen d)) old < 256
 
 -- Pixel k of a course, mixed with a source byte.
-abbrev pub mix_at : Mix → Strides → Bresenham → ℕ → ℕ → List ℕ → List ℕ
-mix_at mix s c k source l =
-    set l (bresenham_after s c k).place (mixed mix source (get_or l (bresenham_after s c k).place 0))
+abbrev pub mix_at : Mix → Course → ℕ → ℕ → List ℕ → List ℕ
+mix_at mix o k source l =
+    set l (course_at o k).place (mixed mix source (get_or l (course_at o k).place 0))
 
 -- Pixels j to j + n - 1 of a course, each mixed with its byte of the mask.
-abbrev pub MixedFrom : Mix → Strides → Bresenham → ℕ → ℕ → List ℕ → List ℕ → List ℕ → Type 0
-MixedFrom mix s c j n mask before after =
-    (pixel : ℕ → ℕ) → Masks pixel mask n → after ≡ in_turn (λ k. mix_at mix s c (j + k) (pixel k)) n before
+abbrev pub MixedFrom : Mix → Course → ℕ → ℕ → List ℕ → List ℕ → List ℕ → Type 0
+MixedFrom mix o j n mask before after =
+    (pixel : ℕ → ℕ) → Masks pixel mask n → after ≡ in_turn (λ k. mix_at mix o (j + k) (pixel k)) n before
 
 -- n pixels of a course, by rounds of m.
-abbrev pub MixedRound : Mix → Strides → Bresenham → ℕ → ℕ → List ℕ → List ℕ → List ℕ → Type 0
-MixedRound mix s c m n mask before after =
-    (pixel : ℕ → ℕ) → Rounds pixel mask m → after ≡ in_turn (λ k. mix_at mix s c k (pixel k)) n before
+abbrev pub MixedRound : Mix → Course → ℕ → ℕ → List ℕ → List ℕ → List ℕ → Type 0
+MixedRound mix o m n mask before after =
+    (pixel : ℕ → ℕ) → Rounds pixel mask m → after ≡ in_turn (λ k. mix_at mix o k (pixel k)) n before

@@ -1,5 +1,5 @@
 -- Many pixels of a line (01, Pixels), in the order of their visits.
-use Rattle.std.specs.Prelude.{Bool, cond, not, ◌&&◌, List, ℕ, zero, suc, ◌+◌, ◌-◌, ◌*◌, leb, ltb, length, get_or, set}
+use Rattle.std.specs.Prelude.{Bool, cond, ◌&&◌, Option, None, Some, List, ℕ, zero, suc, ◌+◌, ◌-◌, ◌*◌, leb, ltb, length, get_or, set}
 use Rattle.raster.specs.Selectors.{drawn}
 use Rattle.raster.specs.declared.Pen.{Pen}
 use Rattle.geometry.specs.Coordinates.{origin}
@@ -48,14 +48,20 @@ pub record Dashed : Type 0 where
 abbrev pub dashed : List ℕ → Pattern → Dashed
 dashed l q = record { buffer = l; pattern = q }
 
--- One pixel of a dashed line: the pattern's bit chooses the pen, a 0 bit draws nothing where the dashes are clear, and the
--- pattern moves, whether the pixel is visible or not (02, R-1).
+-- The pattern's bit chooses the pen; a 0 bit has none where it draws nothing.
+abbrev pub bit_pen : Dashes → Pattern → Option Pen
+bit_pen d q = cond (pattern_bit d.lpat q) (Some d.fore) d.back
+
+-- A buffer drawn on with a pen, if there is one.
+abbrev pub drawn_by : Option Pen → (Pen → List ℕ) → List ℕ → List ℕ
+drawn_by None draw l = l
+drawn_by (Some pen) draw l = draw pen
+
+-- One pixel of a dashed line, with the pen of the pattern's bit; the pattern moves, whether the pixel is visible or not (02, R-1).
 unfoldable pub dash : ℕ → Window → Dashes → Point → Dashed → Dashed
 dash width w d p s =
     record {
-      buffer =
-          cond (not (pattern_bit d.lpat s.pattern) && d.clear) s.buffer
-          (plotted width w (cond (pattern_bit d.lpat s.pattern) d.fore d.back) p s.buffer);
+      buffer = drawn_by (bit_pen d s.pattern) (λ pen. plotted width w pen p s.buffer) s.buffer;
       pattern = next_of d.control s.pattern;
     }
 

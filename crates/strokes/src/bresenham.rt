@@ -1,15 +1,16 @@
 // A stretch of a line that is visible whole, by Bresenham's algorithm: the place in the buffer moves by additions.
 ghost use Rattle.std.specs.Prelude.{◌≡◌, ◌&&◌, ◌+◌, ◌≤◌, ◌<◌, eqb, length};
 ghost use Rattle.geometry.specs.Coordinates.{origin};
+ghost use Rattle.raster.specs.declared.Pen.{Pen};
 ghost use Rattle.strokes.specs.Strokes.{dashed};
 ghost use Rattle.lemmas.specs.Turns.{in_turn};
 ghost use Rattle.strokes.specs.Tracers.{Room, RoomBoth};
 ghost use Rattle.strokes.specs.Bresenham.{Moves, moved, course_by, course_of, Places, InRow, FromOrigin};
-ghost use Rattle.strokes.specs.Bresenham.{plot_at, plot_dash_at, Stretch, plot_on, plot_dash_on};
+ghost use Rattle.strokes.specs.Bresenham.{Draws, plot_at, plot_dash_at, Stretch, plot_on, plot_dash_on};
 
 use crate::Dashes;
 use crate::masks::{dash_rounds, goes_round};
-use crate::phases::{back_pen, draw_bit, phase_at};
+use crate::phases::Phase;
 use crate::tracers::{Stepper, Tracer};
 use geometry::ORIGIN;
 use raster::Pen;
@@ -34,18 +35,9 @@ pub(crate) struct Strides {
     pub(crate) down: usize,
 }
 
-impl Strides {
-    // Whether each place is next to the one before it.
-    fn is_row(self) -> bool
-        requires { self.ahead + self.back ≤ 8589934592 }
-        ensures { result ≡ (eqb self.growth 0 && eqb (self.ahead + self.back) 1) }
-    {
-        (self.growth == 0) & (self.ahead + self.back == 1)
-    }
-}
-
 impl Bresenham {
     // At the next pixel.
+    #[tactic(auto, unfolding(crate::specs::Bresenham::moved))]
     fn next(self, s: Strides) -> Bresenham
         requires { Moves s self }
         ensures { result ≡ moved s self }
@@ -64,6 +56,7 @@ impl Bresenham {
     }
 
     // The same, for a loop that is compiled twice: with a growth, and for lines along an axis.
+    #[tactic(auto, unfolding(crate::specs::Bresenham::moved))]
     fn next_by_axis(self, s: Strides) -> Bresenham
         requires { Moves s self }
         ensures { result ≡ moved s self }
@@ -71,101 +64,119 @@ impl Bresenham {
         if s.growth == 0 {
             return Bresenham {
                 place: self.place + s.ahead - s.back,
-                slack: self.slack,
+                ..self
             };
         }
         self.next(s)
     }
 }
 
-// Where a stretch starts, and what it moves by.
+// The places of a stretch: where it starts, and what it moves by.
 #[derive(Clone, Copy)]
-struct Course {
-    start: Bresenham,
-    strides: Strides,
+pub(crate) struct Course {
+    pub(crate) start: Bresenham,
+    pub(crate) strides: Strides,
 }
 
-// A step of the major axis is `along` places, one of the minor axis `across`.
-fn course_by(major: Stepper, minor: Stepper, along: usize, across: usize, full: usize) -> Course
-    requires { Room full major × Room full minor × (origin ≤ major.coordinate) × (origin ≤ minor.coordinate) × (along ≤ 4294967296) × (across ≤ 4294967296) }
-    ensures { result ≡ course_by major minor along across full }
-{
-    let start = Bresenham {
-        place: (major.coordinate - ORIGIN) * along + (minor.coordinate - ORIGIN) * across,
-        slack: full - minor.error,
-    };
-    let strides = Strides {
-        growth: minor.growth,
-        wrap: full - minor.growth,
-        ahead: major.up * along,
-        back: major.down * along,
-        up: minor.up * across,
-        down: minor.down * across,
-    };
-    Course { start, strides }
-}
-
-// From a tracer's pixel on, in rows of `width` places.
-fn course_of(t: Tracer, width: u32) -> Course
-    requires { RoomBoth t × FromOrigin t }
-    ensures { result ≡ course_of width t }
-{
-    let row = width as usize;
-    let x = t.x;
-    let y = t.y;
-    if x.growth == t.full {
-        course_by(x, y, 1, row, t.full)
-    } else {
-        course_by(y, x, row, 1, t.full)
+impl Course {
+    // A step of the major axis is `along` places, one of the minor axis `across`.
+    #[tactic(auto, unfolding(crate::specs::Bresenham::course_by))]
+    fn by(major: Stepper, minor: Stepper, along: usize, across: usize, full: usize) -> Course
+        requires { Room full major × Room full minor × (origin ≤ major.coordinate) × (origin ≤ minor.coordinate) × (along ≤ 4294967296) × (across ≤ 4294967296) }
+        ensures { result ≡ course_by major minor along across full }
+    {
+        Course {
+            start: Bresenham {
+                place: (major.coordinate - ORIGIN) * along + (minor.coordinate - ORIGIN) * across,
+                slack: full - minor.error,
+            },
+            strides: Strides {
+                growth: minor.growth,
+                wrap: full - minor.growth,
+                ahead: major.up * along,
+                back: major.down * along,
+                up: minor.up * across,
+                down: minor.down * across,
+            },
+        }
     }
-}
 
-// n pixels of a course.
-fn draw_places(buffer: &mut [u8], pen: Pen, s: Strides, start: Bresenham, n: usize)
-    requires { Places s start n (length buffer.old) }
-    ensures { buffer.new ≡ in_turn (plot_at pen s start) n buffer.old }
-{
-    let last = n - 1;
-    let mut state = start;
-    let mut j: usize = 0;
-    while j < last {
+    // From a tracer's pixel on, in rows of `width` places.
+    #[tactic(auto, unfolding(crate::specs::Bresenham::course_of))]
+    fn of(t: Tracer, width: u32) -> Course
+        requires { RoomBoth t × FromOrigin t }
+        ensures { result ≡ course_of width t }
+    {
+        let row = width as usize;
+        let x = t.x;
+        let y = t.y;
+        if x.growth == t.full {
+            Course::by(x, y, 1, row, t.full)
+        } else {
+            Course::by(y, x, row, 1, t.full)
+        }
+    }
+
+    // Whether each place is next to the one before it.
+    fn is_row(self) -> bool
+        requires { self.strides.ahead + self.strides.back ≤ 8589934592 }
+        ensures { result ≡ (eqb self.strides.growth 0 && eqb (self.strides.ahead + self.strides.back) 1) }
+    {
+        let s = self.strides;
+        (s.growth == 0) & (s.ahead + s.back == 1)
+    }
+
+    // n pixels as a pen draws them, by what makes the new byte of an old one.
+    fn draw<F: Fn(u8) -> u8>(self, buffer: &mut [u8], n: usize, new_byte: F)
+        requires places { Places self n (length buffer.old) }
+        requires callable { F.IsAlwaysCallable new_byte }
+        ensures { (pen : Pen) → Draws pen (F.post new_byte) → buffer.new ≡ in_turn (plot_at pen self) n buffer.old }
+    {
+        let mut state = self.start;
+        for _ in 0..n - 1 {
+            let at = state.place;
+            buffer[at] = new_byte(buffer[at]);
+            state = state.next(self.strides);
+        }
+        // The last pixel, from which the state may have no place to move to.
         let at = state.place;
-        buffer[at] = pen.draw(buffer[at]);
-        state = state.next(s);
-        j += 1;
+        buffer[at] = new_byte(buffer[at]);
     }
-    let at = state.place;
-    buffer[at] = pen.draw(buffer[at]);
-}
 
-// The same with a pen that keeps nothing of the old bytes.
-fn store_places(buffer: &mut [u8], pen: Pen, s: Strides, start: Bresenham, n: usize)
-    requires { Places s start n (length buffer.old) × (pen.keep ≡ 0) }
-    ensures { buffer.new ≡ in_turn (plot_at pen s start) n buffer.old }
-{
-    let last = n - 1;
-    let mut state = start;
-    let mut j: usize = 0;
-    while j < last {
+    // The same as one row, where each place is next to the one before it.
+    fn fill(self, buffer: &mut [u8], n: usize, pen: Pen)
+        requires { Places self n (length buffer.old) × InRow self.strides }
+        ensures { buffer.new ≡ in_turn (plot_at pen self) n buffer.old }
+    {
+        let place = self.start.place;
+        if self.strides.back == 0 {
+            fill_row(buffer, place, n, pen);
+        } else {
+            fill_row(buffer, place - (n - 1), n, pen);
+        }
+    }
+
+    // n pixels in dashes, and the pattern state after them. A function of its own, so that the loop keeps its values in registers.
+    // Kept: a loop beside that of `draw`, since it carries a phase; one for both, by a trait of pens with a state, is no plainer.
+    #[inline(never)]
+    fn dash(self, buffer: &mut [u8], n: usize, dashes: Dashes, pattern: Pattern) -> Pattern
+        requires { Places self n (length buffer.old) }
+        ensures { dashed buffer.new result ≡ in_turn (plot_dash_at dashes self) n (dashed buffer.old pattern) }
+    {
+        let pens = [dashes.back_pen(), dashes.fore];
+        let control = dashes.control;
+        let mut phase = Phase::new(dashes.lpat, pattern);
+        let mut state = self.start;
+        for _ in 0..n - 1 {
+            let at = state.place;
+            buffer[at] = pens[phase.bit()].draw(buffer[at]);
+            phase = phase.next(control);
+            state = state.next_by_axis(self.strides);
+        }
         let at = state.place;
-        buffer[at] = pen.flip;
-        state = state.next(s);
-        j += 1;
+        buffer[at] = pens[phase.bit()].draw(buffer[at]);
+        phase.next(control).pattern()
     }
-    let at = state.place;
-    buffer[at] = pen.flip;
-}
-
-// The same as one row, where each place is next to the one before it.
-fn fill_places(buffer: &mut [u8], pen: Pen, s: Strides, start: Bresenham, n: usize)
-    requires { Places s start n (length buffer.old) × InRow s }
-    ensures { buffer.new ≡ in_turn (plot_at pen s start) n buffer.old }
-{
-    if s.back == 0 {
-        fill_row(buffer, start.place, n, pen);
-        return;
-    }
-    fill_row(buffer, start.place - (n - 1), n, pen);
 }
 
 // n pixels from a tracer's on.
@@ -173,50 +184,17 @@ pub(crate) fn draw_visible(buffer: &mut [u8], width: u32, pen: Pen, t: Tracer, n
     requires { Stretch width t n (length buffer.old) }
     ensures { buffer.new ≡ in_turn (plot_on width pen t) n buffer.old }
 {
-    let course = course_of(t, width);
-    let s = course.strides;
-    if s.is_row() {
-        fill_places(buffer, pen, s, course.start, n);
+    let course = Course::of(t, width);
+    if course.is_row() {
+        course.fill(buffer, n, pen);
         return;
     }
+    // A pen that keeps nothing of the old bytes has a loop that reads none.
     if pen.keep == 0 {
-        store_places(buffer, pen, s, course.start, n);
+        course.draw(buffer, n, |_| pen.flip);
         return;
     }
-    draw_places(buffer, pen, s, course.start, n);
-}
-
-// n pixels of a course in dashes, and the pattern state after them.
-fn dash_places(
-    buffer: &mut [u8],
-    dashes: Dashes,
-    pattern: Pattern,
-    s: Strides,
-    start: Bresenham,
-    n: usize,
-) -> Pattern
-    requires { Places s start n (length buffer.old) }
-    ensures { dashed buffer.new result ≡ in_turn (plot_dash_at dashes s start) n (dashed buffer.old pattern) }
-{
-    let fore = dashes.fore;
-    let back = back_pen(dashes);
-    let keep: [u8; 2] = [back.keep, fore.keep];
-    let flip: [u8; 2] = [back.flip, fore.flip];
-    let last = n - 1;
-    let mut phase = phase_at(dashes.lpat, pattern);
-    let mut state = start;
-    let mut j: usize = 0;
-    while j < last {
-        let at = state.place;
-        buffer[at] = draw_bit(&keep, &flip, phase.bits, buffer[at]);
-        phase = phase.next(dashes);
-        state = state.next_by_axis(s);
-        j += 1;
-    }
-    let at = state.place;
-    buffer[at] = draw_bit(&keep, &flip, phase.bits, buffer[at]);
-    phase = phase.next(dashes);
-    phase.pattern(dashes.lpat)
+    course.draw(buffer, n, |old| pen.draw(old));
 }
 
 // n pixels in dashes, and the pattern state after them.
@@ -231,11 +209,10 @@ pub(crate) fn dash_visible(
     requires { Stretch width t n (length buffer.old) }
     ensures { dashed buffer.new result ≡ in_turn (plot_dash_on width dashes t) n (dashed buffer.old pattern) }
 {
-    let course = course_of(t, width);
-    let s = course.strides;
-    let row = s.is_row();
+    let course = Course::of(t, width);
+    let row = course.is_row();
     if row & goes_round(dashes.control, pattern, n) {
-        return dash_rounds(buffer, dashes, pattern, s, course.start, n);
+        return dash_rounds(buffer, dashes, pattern, course, n);
     }
-    dash_places(buffer, dashes, pattern, s, course.start, n)
+    course.dash(buffer, n, dashes, pattern)
 }

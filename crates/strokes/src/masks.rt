@@ -6,10 +6,9 @@ ghost use Rattle.strokes.specs.Bresenham.{Places, InRow, plot_dash_at};
 ghost use Rattle.strokes.specs.Masks.{goes_round, Round, mask_at, Masks, Mixes, MixedFrom, MixedRound};
 
 use crate::Dashes;
-use crate::bresenham::{Bresenham, Strides};
-use crate::phases::{back_pen, phase_at};
+use crate::bresenham::Course;
+use crate::phases::Phase;
 use entries::PatternControl;
-use numbers::min;
 use raster::Selectors;
 use registers::Pattern;
 use rows::{Mix, copy_row};
@@ -35,18 +34,16 @@ fn round(c: PatternControl) -> usize
 }
 
 // The pattern's first n pixels, from the middle of the mask to the right, and to the left. A round has 287 pixels at most.
-fn put_mask(mask: &mut [u8], d: Dashes, start: Pattern, n: usize)
-    requires { (length mask.old ≡ 640) × (n ≤ 320) }
+fn put_mask(mask: &mut [u8; 640], d: Dashes, start: Pattern, n: usize)
+    requires { n ≤ 320 }
     ensures { Masks (mask_at d start) mask.new n }
 {
-    let mut phase = phase_at(d.lpat, start);
-    let mut j: usize = 0;
-    while j < n {
-        let byte = (phase.bits % 2 * 255) as u8;
+    let mut phase = Phase::new(d.lpat, start);
+    for j in 0..n {
+        let byte = (phase.bit() * 255) as u8;
         mask[320 + j] = byte;
         mask[319 - j] = byte;
-        phase = phase.next(d);
-        j += 1;
+        phase = phase.next(d.control);
     }
 }
 
@@ -55,57 +52,39 @@ fn mix_of(d: Dashes) -> Mix
     ensures { Mixes d result }
 {
     let fore = d.fore;
-    let back = back_pen(d);
+    let back = d.back_pen();
     Mix {
+        // Kept: `Selectors::new` has the same four fields of its two pens; a public function of `raster` for them is no plainer.
         selectors: Selectors {
             both: fore.keep ^ back.keep,
             old: back.keep,
             source: fore.flip ^ back.flip,
             none: back.flip,
         },
-        keyed: false,
-        key: 0,
+        key: None,
     }
 }
 
 // n pixels of a row from pixel j on, by the first n of the mask.
-fn mix_places(
-    buffer: &mut [u8],
-    mask: &[u8],
-    mix: Mix,
-    s: Strides,
-    start: Bresenham,
-    j: usize,
-    n: usize,
-)
-    requires { Places s start (j + n) (length buffer.old) × InRow s × (0 < n) × (n ≤ 320) × (length mask.now ≡ 640) }
-    ensures { MixedFrom mix s start j n mask.now buffer.old buffer.new }
+fn mix_places(buffer: &mut [u8], mask: &[u8; 640], mix: Mix, course: Course, j: usize, n: usize)
+    requires { Places course (j + n) (length buffer.old) × InRow course.strides × (0 < n) × (n ≤ 320) }
+    ensures { MixedFrom mix course j n mask.now buffer.old buffer.new }
 {
-    if s.back == 0 {
-        copy_row(buffer, start.place + j, mask, 320, n, mix);
-        return;
+    let place = course.start.place;
+    if course.strides.back == 0 {
+        copy_row(buffer, place + j, mask, 320, n, mix);
+    } else {
+        copy_row(buffer, place - j - (n - 1), mask, 320 - n, n, mix);
     }
-    copy_row(buffer, start.place - j - (n - 1), mask, 320 - n, n, mix);
 }
 
 // n pixels of a row, by the mask's m in each round.
-fn mix_rounds(
-    buffer: &mut [u8],
-    mask: &[u8],
-    mix: Mix,
-    s: Strides,
-    start: Bresenham,
-    m: usize,
-    n: usize,
-)
-    requires { Places s start n (length buffer.old) × InRow s × (0 < m) × (m ≤ 320) × (length mask.now ≡ 640) }
-    ensures { MixedRound mix s start m n mask.now buffer.old buffer.new }
+fn mix_rounds(buffer: &mut [u8], mask: &[u8; 640], mix: Mix, course: Course, m: usize, n: usize)
+    requires { Places course n (length buffer.old) × InRow course.strides × (0 < m) × (m ≤ 320) }
+    ensures { MixedRound mix course m n mask.now buffer.old buffer.new }
 {
-    let mut j: usize = 0;
-    while j < n {
-        let k = min(m, n - j);
-        mix_places(buffer, mask, mix, s, start, j, k);
-        j += k;
+    for j in (0..n).step_by(m) {
+        mix_places(buffer, mask, mix, course, j, m.min(n - j));
     }
 }
 
@@ -114,17 +93,16 @@ pub(crate) fn dash_rounds(
     buffer: &mut [u8],
     dashes: Dashes,
     pattern: Pattern,
-    s: Strides,
-    start: Bresenham,
+    course: Course,
     n: usize,
 ) -> Pattern
-    requires { Places s start n (length buffer.old) × InRow s × (goes_round dashes.control pattern n ≡ true) }
-    ensures { dashed buffer.new result ≡ in_turn (plot_dash_at dashes s start) n (dashed buffer.old pattern) }
+    requires { Places course n (length buffer.old) × InRow course.strides × (goes_round dashes.control pattern n ≡ true) }
+    ensures { dashed buffer.new result ≡ in_turn (plot_dash_at dashes course) n (dashed buffer.old pattern) }
 {
     let m = round(dashes.control);
     let mix = mix_of(dashes);
     let mut mask: [u8; 640] = [0; 640];
     put_mask(&mut mask, dashes, pattern, m);
-    mix_rounds(buffer, &mask, mix, s, start, m, n);
+    mix_rounds(buffer, &mask, mix, course, m, n);
     pattern.after(dashes.control, n as u32)
 }

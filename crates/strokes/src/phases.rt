@@ -1,50 +1,47 @@
 // The pattern of a dashed line: its state in machine words, and what its bits draw.
-ghost use Rattle.std.specs.Prelude.{◌≡◌, ◌%◌, get_or};
-ghost use Rattle.std.specs.Int.Bits.{bit_and, bit_xor};
-ghost use Rattle.registers.specs.Patterns.{next_of};
-ghost use Rattle.strokes.specs.Phases.{pattern_of, Holds, back_pen};
+ghost use Rattle.std.specs.Prelude.{◌≡◌, ◌/◌, ◌^◌, ◌<◌};
 
-use crate::Dashes;
-use raster::Pen;
+use entries::PatternControl;
 use registers::Pattern;
 
 // A pattern state, and the bits of LPAT from its place on.
 #[derive(Clone, Copy)]
 pub(crate) struct Phase {
-    pub(crate) bits: usize,
+    lpat: u32,
+    bits: usize,
     place: usize,
     repeat: usize,
-}
-
-pub(crate) fn phase_at(lpat: u32, p: Pattern) -> Phase
-    ensures { (pattern_of result ≡ p) × Holds lpat result }
-{
-    let place = p.place;
-    let repeat = p.repeat as usize;
-    if 32 <= place {
-        return Phase {
-            bits: 0,
-            place: place as usize,
-            repeat,
-        };
-    }
-    Phase {
-        bits: (lpat >> place) as usize,
-        place: place as usize,
-        repeat,
-    }
+    ghost bits_are: { bits ≡ lpat / 2 ^ place },
+    ghost place_small: { place < 4294967296 },
+    ghost repeat_small: { repeat < 4294967296 },
 }
 
 impl Phase {
-    // After one more pixel.
-    pub(crate) fn next(self, d: Dashes) -> Phase
-        requires { Holds d.lpat self }
-        ensures { (pattern_of result ≡ next_of d.control (pattern_of self)) × Holds d.lpat result }
+    ghost use Rattle.std.specs.Prelude.{◌%◌};
+    ghost use Rattle.registers.specs.Patterns.{next_of};
+    ghost use Rattle.strokes.specs.Phases.{pattern_of};
+
+    pub(crate) fn new(lpat: u32, p: Pattern) -> Phase
+        ensures { (pattern_of result ≡ p) × (result.lpat ≡ lpat) }
     {
-        let control = d.control;
+        let bits = if p.place < 32 { lpat >> p.place } else { 0 };
+        Phase {
+            lpat,
+            bits: bits as usize,
+            place: p.place as usize,
+            repeat: p.repeat as usize,
+        }
+    }
+
+    // After one more pixel.
+    pub(crate) fn next(self, control: PatternControl) -> Phase
+        ensures { (pattern_of result ≡ next_of control (pattern_of self)) × (result.lpat ≡ self.lpat) }
+    {
+        let lpat = self.lpat;
         let repeat = self.repeat + 1;
         if repeat < control.scale as usize {
             return Phase {
+                lpat,
                 bits: self.bits,
                 place: self.place,
                 repeat,
@@ -53,20 +50,28 @@ impl Phase {
         let place = self.place + 1;
         if place < control.length as usize {
             return Phase {
+                lpat,
                 bits: self.bits / 2,
                 place,
                 repeat: 0,
             };
         }
         Phase {
-            bits: d.lpat as usize,
+            lpat,
+            bits: lpat as usize,
             place: 0,
             repeat: 0,
         }
     }
 
-    pub(crate) fn pattern(self, lpat: u32) -> Pattern
-        requires { Holds lpat self }
+    // LPAT's bit at the place, as a number.
+    pub(crate) fn bit(self) -> usize
+        ensures { result ≡ self.bits % 2 }
+    {
+        self.bits % 2
+    }
+
+    pub(crate) fn pattern(self) -> Pattern
         ensures { result ≡ pattern_of self }
     {
         Pattern {
@@ -74,22 +79,4 @@ impl Phase {
             repeat: self.repeat as u32,
         }
     }
-}
-
-// The pen of a 0 bit: where it draws nothing, one that leaves a byte as it is.
-pub(crate) fn back_pen(d: Dashes) -> Pen
-    ensures { result ≡ back_pen d }
-{
-    if d.clear {
-        return Pen { keep: 255, flip: 0 };
-    }
-    d.back
-}
-
-// The new byte, by two pens of which the lowest bit chooses one.
-pub(crate) fn draw_bit(keep: &[u8; 2], flip: &[u8; 2], bits: usize, old: u8) -> u8
-    ensures { result ≡ bit_xor (bit_and old (get_or keep.now (bits % 2) 0)) (get_or flip.now (bits % 2) 0) }
-{
-    let bit = bits % 2;
-    (old & keep[bit]) ^ flip[bit]
 }

@@ -1,11 +1,8 @@
 // A line's pixels by an error term for each axis.
-ghost use Rattle.std.specs.Prelude.{◌≡◌, ◌-◌, ◌≤◌, ◌<◌};
-ghost use Rattle.geometry.specs.Coordinates.{point_of};
-ghost use Rattle.geometry.specs.Line.{steps_of};
-ghost use Rattle.strokes.specs.Tracers.{Axis, On, Leaps, stepped_by, Traces};
+ghost use Rattle.std.specs.Prelude.{◌≡◌, ◌≤◌};
+ghost use Rattle.strokes.specs.Tracers.{On, Leaps, stepped_by, Traces};
 
-use geometry::{line_steps, point_of};
-use numbers::{max, min};
+use crate::lines::{Line, Ramp};
 
 // One coordinate of a pixel. The error term grows at each pixel, and the coordinate steps up or down where it is full.
 #[derive(Clone, Copy)]
@@ -17,31 +14,25 @@ pub(crate) struct Stepper {
     pub(crate) down: usize,
 }
 
-// 1 where an axis from a to b goes up, or nowhere; else 0.
-fn rise(a: usize, b: usize) -> usize
-    ensures { result ≡ 1 - (a - b) }
-{
-    if a <= b { 1 } else { 0 }
-}
-
-// At the first pixel of a line of n steps, along an axis from a to b.
-fn stepper_from(n: usize, a: usize, b: usize) -> Stepper
-    requires { Axis n a b }
-    ensures { On n 0 a b result }
-{
-    let up = rise(a, b);
-    let distance = max(a, b) - min(a, b);
-    Stepper {
-        coordinate: a,
-        error: n - up,
-        growth: 2 * distance,
-        up,
-        down: 1 - up,
+impl Ramp {
+    // At the line's first pixel.
+    fn stepper(self) -> Stepper
+        ensures { On self.steps 0 self.from self.to result }
+    {
+        let up = usize::from(self.from <= self.to);
+        Stepper {
+            coordinate: self.from,
+            error: self.steps - up,
+            growth: 2 * self.from.abs_diff(self.to),
+            up,
+            down: 1 - up,
+        }
     }
 }
 
 impl Stepper {
     // i pixels on, by one division.
+    #[tactic(auto, unfolding(crate::specs::Tracers::stepped_by))]
     fn after(self, full: usize, i: usize) -> Stepper
         requires { Leaps full i self }
         ensures { result ≡ stepped_by full i self }
@@ -51,9 +42,7 @@ impl Stepper {
         Stepper {
             coordinate: self.coordinate + self.up * steps - self.down * steps,
             error: error % full,
-            growth: self.growth,
-            up: self.up,
-            down: self.down,
+            ..self
         }
     }
 }
@@ -66,23 +55,22 @@ pub(crate) struct Tracer {
     pub(crate) full: usize,
 }
 
-// At pixel i of a line.
-pub(crate) fn tracer_at(from: u32, to: u32, i: usize) -> Tracer
-    requires { (0 < steps_of (point_of from) (point_of to)) × (i ≤ steps_of (point_of from) (point_of to)) }
-    ensures { Traces (point_of from) (point_of to) i result }
-{
-    let a = point_of(from);
-    let b = point_of(to);
-    let n = line_steps(from, to);
-    let x = stepper_from(n, a.x, b.x);
-    let y = stepper_from(n, a.y, b.y);
-    let full = 2 * n;
-    if i == 0 {
-        return Tracer { x, y, full };
-    }
-    Tracer {
-        x: x.after(full, i),
-        y: y.after(full, i),
-        full,
+impl Line {
+    // At the line's pixel i.
+    pub(crate) fn tracer_at(self, i: usize) -> Tracer
+        requires { i ≤ self.steps }
+        ensures { Traces self.from self.to i result }
+    {
+        let x = self.x().stepper();
+        let y = self.y().stepper();
+        let full = 2 * self.steps;
+        if i == 0 {
+            return Tracer { x, y, full };
+        }
+        Tracer {
+            x: x.after(full, i),
+            y: y.after(full, i),
+            full,
+        }
     }
 }

@@ -1,21 +1,20 @@
 -- The corner of a tile: where it is whole, and its place in the buffer.
 -- Assumes nothing.
-use mathlib.Core.Path.{◌≡◌, sym, ◌∙◌}
-use mathlib.Core.Bool.{Bool, true, false, not, ◌&&◌}
+use mathlib.Core.Path.{◌≡◌, ◌∙◌}
+use mathlib.Core.Bool.{Bool, true, ◌&&◌}
 use mathlib.Core.List.{List}
 use Prim.Native.Nat.{ℕ, ◌+◌, ◌-◌, ◌*◌, ◌≤◌, ◌<◌}
 use native.Mathlib.Nat.{mul-le-mul}
 use native.Mathlib.Omega.{arith}
-use borrow.Author.Tests.{leb-true, le-leb, not-true, not-false}
+use borrow.Author.Tests.{leb-true, le-leb}
 use lib.Dec.{leb}
 use Rattle.lemmas.proofs.Booleans.{both, and_left, and_right}
 use Rattle.geometry.specs.Coordinates.{origin, point_of}
 use Rattle.geometry.specs.declared.Extent.{Extent}
 use Rattle.geometry.specs.declared.Point.{Point}
 use Rattle.geometry.proofs.Windows.{buffer-of, buffer-by}
-use Rattle.tiles.specs.Tiles.{whole_at, tile_of, no_fill, filled_with, fill_of, in_tile, Inside, WholeIsInside}
+use Rattle.tiles.specs.Tiles.{whole_at, tile_of, filled_with, fill_of, in_tile, Inside, WholeIsInside}
 use Rattle.tiles.specs.declared.Tile.{Tile}
-use Rattle.tiles.specs.declared.Fill.{Fill}
 
 -- a product below 2 ^ 50
 pub product_small : (a b : ℕ) → a < 131072 → b < 4294967296 → a * b < 1125899906842624
@@ -84,20 +83,15 @@ module _ (p : Point) (corner : ℕ) (e : p ≡ point_of corner) where
     unfolding whole_at
     whole_by = rw e
 
-    module _ (t : Bool) (judged : t ≡ whole_at extent corner) (good : not t ≡ false) where
+    module _ (good : whole_at extent corner ≡ true) where
       pub whole-fits : Fits extent p
-      whole-fits = fits extent p (whole_by ∙ sym judged ∙ not-false t good)
+      whole-fits = fits extent p (whole_by ∙ good)
 
       pub taken-whole : (buffer : List ℕ) (tile : Tile)
           → tile ≡ tile_of buffer extent.width ((p.y - origin) * extent.width + (p.x - origin))
           → filled_with tile ≡ fill_of extent corner buffer
       unfolding fill_of
-      taken-whole buffer tile q = rw (← judged, not-false t good, ← e, q)
-
-pub taken_none : (extent : Extent) (corner : ℕ) (t : Bool) → t ≡ whole_at extent corner → not t ≡ true → (buffer : List ℕ) (r : Fill)
-    → r ≡ no_fill → r ≡ fill_of extent corner buffer
-unfolding fill_of
-taken_none extent corner t judged bad buffer r e = rw (← judged, not-true t bad) e
+      taken-whole buffer tile q = rw (good, ← e, q)
 
 -- ---- whole exactly where each pixel is in the buffer
 -- the first pixel and the last

@@ -5,8 +5,7 @@
 
 mod taking;
 
-ghost use Rattle.std.specs.Prelude.{◌≡◌, ◌+◌, ◌≤◌, length, get_or};
-ghost use Rattle.lemmas.specs.Sweeps.{sweep};
+ghost use Rattle.std.specs.Prelude.{◌≡◌};
 ghost use Rattle.tiles.specs.Tiles.{pixel_of, twice_in, no_fill, row_blank, tile_blank, is_none};
 
 pub use taking::{tile_at, whole_at};
@@ -22,6 +21,8 @@ pub struct Tile {
 }
 
 // What a fill draws with: whether its tile was whole, and if so the tile; else zeros.
+// Kept: what may not change (`is_none`): a record may come with the flag clear and bytes that are not zero, and is malformed
+// then; an Option of a tile could not hold it.
 #[derive(Clone, Copy)]
 pub struct Fill {
     pub whole: bool,
@@ -47,18 +48,6 @@ pub fn pixel(tile: Tile, x: usize, y: usize) -> u8
     row.pixels[i]
 }
 
-// Sixteen bytes at a place.
-fn put_row(bytes: &mut [u8], at: usize, row: [u8; 16])
-    requires { at + 16 ≤ length bytes.old }
-    ensures { bytes.new ≡ sweep (λ k. at + k) (λ k m. get_or row k 0) 16 bytes.old }
-{
-    let mut k: usize = 0;
-    while k < 16 {
-        bytes[at + k] = row[k];
-        k += 1;
-    }
-}
-
 // Each row twice, in 256 bytes: sixteen from byte 32 y + x on are row y from column x on, and round.
 pub fn put_twice(tile: Tile, bytes: &mut [u8])
     ensures { bytes.new ≡ twice_in tile bytes.old }
@@ -66,36 +55,27 @@ pub fn put_twice(tile: Tile, bytes: &mut [u8])
     if bytes.len() != 256 {
         return;
     }
-    let mut j: usize = 0;
-    while j < 8 {
-        let row = tile.rows[j];
-        let pixels = row.pixels;
-        put_row(bytes, 32 * j, pixels);
-        put_row(bytes, 32 * j + 16, pixels);
-        j += 1;
+    for (j, row) in tile.rows.iter().enumerate() {
+        let at = 32 * j;
+        bytes[at..at + 16].copy_from_slice(&row.pixels);
+        bytes[at + 16..at + 32].copy_from_slice(&row.pixels);
     }
 }
 
 fn row_blank(row: Row) -> bool
     ensures { result ≡ row_blank row }
 {
-    let mut blank = true;
-    let mut i: usize = 0;
-    while i < 16 {
-        blank = blank & (row.pixels[i] == 0);
-        i += 1;
-    }
-    blank
+    row.pixels == [0; 16]
 }
 
+// All rows are tested, with no early end.
+// Kept: tried and slower; `iter().all(..)`, or `==` derived for a tile, ends early, and takes twice as long where all is blank.
 fn tile_blank(tile: Tile) -> bool
     ensures { result ≡ tile_blank tile }
 {
     let mut blank = true;
-    let mut j: usize = 0;
-    while j < 8 {
-        blank = blank & row_blank(tile.rows[j]);
-        j += 1;
+    for row in &tile.rows {
+        blank &= row_blank(*row);
     }
     blank
 }
@@ -104,6 +84,5 @@ fn tile_blank(tile: Tile) -> bool
 pub fn is_none(fill: Fill) -> bool
     ensures { result ≡ is_none fill }
 {
-    let tile = fill.tile;
-    !fill.whole & tile_blank(tile)
+    !fill.whole & tile_blank(fill.tile)
 }

@@ -3,6 +3,7 @@
 
 #![tactic(auto)]
 
+use answers::Heard;
 use board::{Answer, Board};
 use slots::Slot;
 use std::io;
@@ -18,15 +19,12 @@ fn print_slot(rt: &impl Print, name: &str, s: Slot) -> io::Result<()> {
 
 // The answer and the steps; then the active list as start+count with its next entry, and the pending list.
 fn tell(rt: &impl Print, call: &str, a: Answer) -> io::Result<()> {
-    let status = a.status;
-    let b = a.board;
-    let active = b.active;
-    let cursor = active.cursor;
-    print!(rt; "{call}{} steps {}", status.number(), status.steps())?;
+    let active = a.board.active;
+    print!(rt; "{call}{} steps {}", a.status.number(), a.status.steps())?;
     print_slot(rt, " active ", active.slot())?;
-    print!(rt; " next {}", cursor.next)?;
-    print_slot(rt, " pending ", b.pending)?;
-    rt.write_all(b"\n")
+    print!(rt; " next {}", active.cursor.next)?;
+    print_slot(rt, " pending ", a.board.pending)?;
+    println!(rt;)
 }
 
 fn main(rt: HostRuntime) -> io::Result<()> {

@@ -4,12 +4,9 @@ use Rattle.pramolyt.proofs.Calls.{post-refused, post-done}
 use Rattle.pramolyt.proofs.pramolyt_post_r2.Goals as goal
 
 pub returns-then-not-flags_ok : goal.returns-then-not-flags_ok
-returns-then-not-flags_ok c = post-refused _ _ c.flags_ok.ensures c.if-not-flags_ok.true-raw _ _ _
+returns-then-not-flags_ok c = post-refused _ _ c.flags_ok.ensures c.if-not-flags_ok.true _ _ _
 
 pub returns : goal.returns
 returns c =
-    let encoded = c.before.before in
-    let answer = encoded.before in
-    let decoded = answer.before in
-    let flags = decoded.before in
-    post-done answer.post-posted.result _ encoded.encode.ensures _ c.number.ensures _ _ flags.flags_ok.ensures flags.if-not-flags_ok.false-raw _ decoded.decode-b.ensures _ _ _ answer.post-posted.ensures _ c.place.ensures
+    post-done c.post-posted.result _ c.encode.ensures _ c.number.ensures _ _ c.flags_ok.ensures c.if-not-flags_ok.false _ c.decode-b.ensures
+    _ _ _ c.post-posted.ensures _ c.place.ensures

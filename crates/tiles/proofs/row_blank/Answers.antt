@@ -1,27 +1,7 @@
--- The loop keeps that so far the test is `all_below i`; each turn is one pixel more (`turn_more`).
-use native.Mathlib.Omega.{arith}
-use mathlib.Core.Path.{refl}
-use Rattle.lemmas.proofs.Turns.{turn-none, turn_more, turn_end}
+use mathlib.Core.Path.{◌∙◌}
+use borrow.Author.Rules.{rules}
+use Rattle.tiles.proofs.Pixels.{blank-is}
 use Rattle.tiles.proofs.row_blank.Goals as goal
 
-pub loop-i-init : goal.loop-i-init
-loop-i-init c = (omega arith, turn-none _ _)
-
-pub bounds-row-i : goal.bounds-row-i
-bounds-row-i c = omega arith
-
-pub overflow_add-i : goal.overflow_add-i
-overflow_add-i c = omega arith
-
-pub loop-i-smaller : goal.loop-i-smaller
-loop-i-smaller c = omega arith
-
-pub loop-i-preserved : goal.loop-i-preserved
-loop-i-preserved c =
-    let o = c.loop-i in
-    (omega arith, turn_more _ _ o.i o.blank _ o.invariant.1 refl)
-
 pub returns : goal.returns
-returns c =
-    let o = c.loop-i in
-    turn_end _ _ o.i 16 o.blank o.invariant.0 c.loop-i-test.false o.invariant.1
+returns c = c.eq.ensures ∙ blank-is c.args.row (search rules)

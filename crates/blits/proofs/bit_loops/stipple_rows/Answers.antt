@@ -1,9 +1,8 @@
--- By the width: 8 and 16 pixels by `narrow_rows`, the others by `wide_rows`, whose contract is the same.
+-- The rows are those of the paint (`stippled-rows`).
+use mathlib.Core.Path.{◌∙◌}
+use Rattle.blits.proofs.BitRows.{stippled-rows}
 use Rattle.blits.proofs.bit_loops.stipple_rows.Goals as goal
 
-pub narrow_rows-requires : goal.narrow_rows-requires
-narrow_rows-requires c =
-    let told = c.before in
-    let narrow = told.before in
-    let start = narrow.before.before.before in
-    (narrow.is_narrow.ensures told.if-is_narrow.true, start.requires.0, start.requires.1)
+pub returns : goal.returns
+returns c =
+    λ back. c.expand_rows.ensures ∙ stippled-rows c.args.rows _ c.requires.0 c.requires.2 c.args.s back c.args.other.now c.args.buffer.now

@@ -1,9 +1,6 @@
-use Prim.Native.Nat.{◌-◌}
 use Rattle.blits.proofs.Expanded.{Expanding}
 use Rattle.blits.proofs.bits.expand.Given as goal
 
 abbrev pub invariant-loop-k : goal.invariant-loop-k
-invariant-loop-k l = Expanding l.s l.n l.initial.buffer l.at l.source l.byte l.first l.buffer l.k l.i
-
-abbrev pub decreases-loop-k : goal.decreases-loop-k
-decreases-loop-k l = l.n - l.k
+invariant-loop-k g l =
+    Expanding l.ink.stipple l.n l.initial.buffer l.at (g.B.Bits.bytes l.bits l.initial.buffer) l.byte l.first l.buffer l.k

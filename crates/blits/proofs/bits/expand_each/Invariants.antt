@@ -4,7 +4,7 @@ use Rattle.blits.proofs.bits.expand_each.Given as goal
 
 abbrev pub invariant-loop-k : goal.invariant-loop-k
 invariant-loop-k l =
-    let from = 8 * l.byte + l.first in
+    let from = 8 * l.fn.from.byte + l.fn.from.bit in
     OneByOne l.s (λ k'. l.at + k') (λ k'. from + k') l.n l.initial.buffer l.buffer l.p (from + l.k) l.k
 
 abbrev pub decreases-loop-k : goal.decreases-loop-k

@@ -1,39 +1,29 @@
--- Eight pixels (`eight-only`), and for 16 eight more (`eight-more`).
+-- Eight pixels, and for 16 eight more (`expanding-turn`), by bits that are those of the start (`stayed`).
+use mathlib.Core.Path.{refl}
+use Prim.Native.Nat.{◌+◌}
 use native.Mathlib.Omega.{arith}
-use Rattle.blits.proofs.Expanded.{eight-of, eight-only, eight-more}
+use Rattle.blits.proofs.Expanded.{expanding-start, expanding-turn, expanding-end, stayed, eight-of, only-eight}
 use Rattle.blits.proofs.bits.expand_narrow.Goals as goal
 
-pub bits_at-requires : goal.bits_at-requires
-bits_at-requires c =
-    let start = c.before.before.before in
-    let f = start.requires.3 in
-    (omega arith, omega arith, record { in-byte = f.in-byte; within = omega (arith, f.within, eight-of start.args.n start.requires.0) })
-
-pub draw_glyph_byte-requires : goal.draw_glyph_byte-requires
-draw_glyph_byte-requires c =
-    let start = c.before.before.before.before in
-    (start.requires.1, omega (arith, start.requires.2, eight-of start.args.n start.requires.0))
-
 pub returns-then-n-eq16 : goal.returns-then-n-eq16
-returns-then-n-eq16 c =
-    let second = c.before.before in
-    let had-second = second.before in
-    let told = had-second.before.before in
-    let first = told.before.before.before in
-    let had-first = first.before in
-    let start = had-first.before.before.before.before in
-    let a = start.args in
-    eight-more a.s a.n a.buffer.now a.at a.source.now a.byte a.first start.requires.0 _ _
-    first.draw_glyph_byte.auto.buffer first.draw_glyph_byte.ensures
-    had-first.bits_at.ensures told.if-n-eq16.true _ _ second.draw_glyph_byte-then-n-eq16.auto.buffer second.draw_glyph_byte-then-n-eq16.ensures
-    had-second.bits_at-then-n-eq16.ensures
+returns-then-n-eq16 g c =
+    let a = c.args in
+    let start = expanding-start a.ink.stipple a.n a.buffer.now a.at (g.B.Bits.bytes a.bits a.buffer.now) a.byte a.first in
+    let first =
+    expanding-turn start a.byte a.at _ _ (omega arith) (omega arith) (omega arith) c.draw_glyph_byte.auto.buffer c.draw_glyph_byte.ensures
+    (stayed start 8 a.byte (omega arith) (omega arith) (g.B.Bits.bytes a.bits) refl c.requires.2.stay _ c.read-left.ensures) in
+    expanding-end
+    (expanding-turn first (a.byte + 1) (a.at + 8) _ _ (omega arith) (omega arith) (omega arith) c.draw_glyph_byte-then-n-eq16.auto.buffer
+    c.draw_glyph_byte-then-n-eq16.ensures
+    (stayed first 8 (a.byte + 1) (omega arith) (omega arith) (g.B.Bits.bytes a.bits) refl c.requires.2.stay _ c.read-right.ensures))
+    (omega arith)
 
 pub returns-else-n-eq16 : goal.returns-else-n-eq16
-returns-else-n-eq16 c =
-    let first = c.before.before.before in
-    let had = first.before in
-    let start = had.before.before.before.before in
-    let a = start.args in
-    eight-only a.s a.n a.buffer.now a.at a.source.now a.byte a.first start.requires.0 _ _
-    first.draw_glyph_byte.auto.buffer first.draw_glyph_byte.ensures
-    had.bits_at.ensures c.if-n-eq16.false
+returns-else-n-eq16 g c =
+    let start = expanding-start c.args.ink.stipple c.args.n c.args.buffer.now c.args.at (g.B.Bits.bytes c.args.bits c.args.buffer.now) c.args.byte c.args.first in
+    let some = eight-of c.args.n c.requires.0 in
+    let few = only-eight c.args.n c.requires.0 c.if-n-eq16.false in
+    expanding-end
+    (expanding-turn start c.args.byte c.args.at _ _ (omega arith) (omega arith) (omega arith) c.draw_glyph_byte.auto.buffer c.draw_glyph_byte.ensures
+    (stayed start 8 c.args.byte (omega arith) (omega arith) (g.B.Bits.bytes c.args.bits) refl c.requires.2.stay _ c.read-left.ensures))
+    (omega arith)

@@ -1,13 +1,7 @@
--- Bits that begin a byte (`bit-first`), bits of one byte (`here-bit`), and bits of two (`either-bit`).
+-- Bits of one byte (`here-bit`), and bits of two (`either-bit`).
 use native.Mathlib.Omega.{arith}
-use Rattle.blits.proofs.Words.{bit-first, here-bit, either-bit}
+use Rattle.blits.proofs.Words.{here-bit, either-bit}
 use Rattle.blits.proofs.eights.bits_at.Goals as goal
-
-pub returns-then-first-eq0 : goal.returns-then-first-eq0
-returns-then-first-eq0 c =
-    let start = c.before.before.before in
-    let s = start.args in
-    λ j h. bit-first s.source.now s.byte s.first j c.if-first-eq0.true (omega (arith, h, start.requires.1))
 
 pub returns-then-first-m-le8 : goal.returns-then-first-m-le8
 returns-then-first-m-le8 c =

@@ -1,10 +1,6 @@
-use Prim.Native.Nat.{◌-◌}
 use Rattle.lemmas.proofs.Sweeps.{Swept}
 use Rattle.blits.specs.Bits.{by_byte}
 use Rattle.blits.proofs.eights.draw_bits.Given as goal
 
 abbrev pub invariant-loop-k : goal.invariant-loop-k
 invariant-loop-k l = Swept (λ k'. by_byte l.s k' l.initial.buffer l.at l.bits) l.m l.initial.buffer l.buffer l.k
-
-abbrev pub decreases-loop-k : goal.decreases-loop-k
-decreases-loop-k l = l.m - l.k

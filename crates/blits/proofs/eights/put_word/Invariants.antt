@@ -1,13 +1,8 @@
-use mathlib.Core.Path.{◌≡◌}
-use Prim.Native.Nat.{◌+◌, ◌-◌, ◌*◌, ◌/◌, ◌^◌}
+use Prim.Native.Nat.{◌+◌}
 use Rattle.lemmas.specs.Sweeps.{sweep}
 use Rattle.lemmas.proofs.Sweeps.{Swept}
 use Rattle.stipples.specs.Words.{byte_in}
 use Rattle.blits.proofs.eights.put_word.Given as goal
 
 abbrev pub invariant-loop-k : goal.invariant-loop-k
-invariant-loop-k l =
-    (l.rest ≡ l.word / 2 ^ (8 * l.k)) × Swept (λ k'. sweep (λ k'. l.at + k') (λ k' m. byte_in k' l.word) k' l.initial.buffer) 8 l.initial.buffer l.buffer l.k
-
-abbrev pub decreases-loop-k : goal.decreases-loop-k
-decreases-loop-k l = 8 - l.k
+invariant-loop-k l = Swept (λ k'. sweep (λ k'. l.at + k') (λ k' m. byte_in k' l.word) k' l.initial.buffer) 8 l.initial.buffer l.buffer l.k

@@ -19,12 +19,6 @@ place_in-requires c =
     let s = start.args in
     rw (c.along-y.ensures, c.left_edge-x.ensures, c.point_of-c.ensures) (
       start.requires.0,
-      edge-below (right_to_left s.direction) (point_of s.corner).x s.a s.z (x_below s.corner) (omega (arith, start.requires.1, start.requires.2)),
+      edge-below (right_to_left s.direction) (point_of s.corner).x s.across.from s.across.past (x_below s.corner) (omega (arith, start.requires.1, start.requires.2)),
       away-below (bottom_to_top s.direction) (point_of s.corner).y s.row (y-below s.corner) start.requires.3,
     )
-
-pub returns : goal.returns
-returns c =
-    let y = c.before in
-    let x = y.before in
-    rw (c.place_in.ensures, y.along-y.ensures, x.left_edge-x.ensures, x.point_of-c.ensures)

@@ -7,6 +7,3 @@ range_of-requires c = rw c.point_of-target.ensures (x_below _)
 
 pub range_of-requires-2 : goal.range_of-requires-2
 range_of-requires-2 c = rw c.point_of-target.ensures (y-below _)
-
-pub returns : goal.returns
-returns c = rw (c.range_of-2.ensures, c.range_of.ensures, c.point_of-target.ensures)

@@ -1,24 +1,16 @@
--- By the mix and the length: each branch is the contract of its loop.
-use Rattle.rows.proofs.Tests.{between}
+-- By the mix and the length: each branch is a kind of row, which is the same in either direction (`copied-rows`).
+use mathlib.Core.Path.{◌∙◌}
+use Rattle.blits.proofs.Stepping.{copied-rows}
 use Rattle.blits.proofs.row_loops.copy_rows.Goals as goal
 
 pub returns-then-is_plain : goal.returns-then-is_plain
-returns-then-is_plain c =
-    let plain = c.before.before.before.before in
-    c.copy_plain_rows.ensures _ (plain.is_plain.ensures plain.if-is_plain.true)
+returns-then-is_plain c = λ back. c.draw_rows_apart.ensures ∙ copied-rows back c.args.mix c.args.other.now c.args.rows c.args.buffer.now
 
-pub copy_short_rows-requires : goal.copy_short_rows-requires
-copy_short_rows-requires c =
-    let short = c.before in
-    let start = short.before.before.before.before.before in
-    let h = between 8 _ 16 short.if-n.true in
-    (h.0, h.1, start.requires.0, start.requires.1)
+pub returns-then-rows : goal.returns-then-rows
+returns-then-rows c = λ back. c.draw_rows_apart-then-rows.ensures ∙ copied-rows back c.args.mix c.args.other.now c.args.rows c.args.buffer.now
 
-pub returns-then-n : goal.returns-then-n
-returns-then-n c = c.copy_short_rows.ensures
-
-pub returns-then-n-ge32 : goal.returns-then-n-ge32
-returns-then-n-ge32 c = c.copy_long_rows.ensures
+pub returns-then-rows-ge32 : goal.returns-then-rows-ge32
+returns-then-rows-ge32 c = λ back. c.draw_rows_apart-then-rows-ge32.ensures ∙ copied-rows back c.args.mix c.args.other.now c.args.rows c.args.buffer.now
 
 pub returns : goal.returns
-returns c = c.copy_any_rows.ensures
+returns c = λ back. c.draw_rows_apart-2.ensures ∙ copied-rows back c.args.mix c.args.other.now c.args.rows c.args.buffer.now

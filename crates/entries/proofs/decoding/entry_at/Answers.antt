@@ -1,6 +1,6 @@
--- Past list memory there is no entry (`decoded-none`); else its five bytes lie there and are the entry
--- (`decoded-whole`).
-use mathlib.Core.Path.{sym}
+-- Past list memory there is no entry (`decoded-none`); else it lies there (`decoded-whole`).
+use mathlib.Core.Path.{ap, sym, ◌∙◌}
+use Rattle.std.specs.Prelude.{Some}
 use Rattle.entries.proofs.Decodes.{decoded-none, decoded-whole}
 use Rattle.entries.proofs.decoding.entry_at.Goals as goal
 
@@ -8,6 +8,4 @@ pub returns-then-list-place : goal.returns-then-list-place
 returns-then-list-place c = sym (decoded-none _ _ c.if-list-place.true)
 
 pub returns : goal.returns
-returns c =
-    let o = c.before.before.before.before.before in
-    rw (c.join-word.ensures, o.wide-first.ensures) (sym (decoded-whole _ _ o.if-list-place.false))
+returns c = ap Some c.of_bytes.ensures ∙ sym (decoded-whole _ _ c.if-list-place.false)

@@ -1,10 +1,10 @@
--- Past list memory there is no data (`word_none`); else its four bytes lie there (`word_in`).
-use mathlib.Core.Path.{◌∙◌}
-use Rattle.entries.proofs.Decodes.{word_in, word_none}
+-- What is decoded at the place decides (`word-by`).
+use mathlib.Core.Path.{sym, ◌∙◌}
+use Rattle.entries.proofs.Decodes.{word-by}
 use Rattle.entries.proofs.decoding.word_at.Goals as goal
 
-pub returns-then-list-place : goal.returns-then-list-place
-returns-then-list-place c = word_none _ _ c.if-list-place.true
+pub returns-in-Some : goal.returns-in-Some
+returns-in-Some c = word-by _ _ _ (sym c.in-Some.is ∙ c.entry_at.ensures)
 
-pub returns : goal.returns
-returns c = c.join.ensures ∙ word_in _ _ c.if-list-place.false
+pub returns-in-None : goal.returns-in-None
+returns-in-None c = word-by _ _ _ (sym c.in-None.is ∙ c.entry_at.ensures)

@@ -8,18 +8,11 @@ use Rattle.geometry.proofs.visible.visible_count.Goals as goal
 
 pub returns-then-shows_whole : goal.returns-then-shows_whole
 returns-then-shows_whole c =
-    let o = c.before.before in
-    let s = o.args in
-    c.blit_count.ensures ∙ whole-count (point_of s.corner) s.size s.direction s.window (sym o.shows_whole.ensures ∙ c.if-shows_whole.true)
+    let s = c.args in
+    c.blit_count.ensures ∙ whole-count (point_of s.corner) s.size s.direction s.window (sym c.shows_whole.ensures ∙ c.if-shows_whole.true)
 
 pub overflow_mul-result : goal.overflow_mul-result
 overflow_mul-result c =
-    let part = c.before.before.before.before in
-    let s = part.args in
-    let fits = count_fits (point_of s.corner) s.size s.direction s.window _ (search rules) part.visible_part-part.ensures in
-    rw (c.saturating_sub-2.ensures, c.saturating_sub.ensures) (omega (arith, fits))
-
-pub returns : goal.returns
-returns c =
-    let part = c.before.before.before.before in
-    rw (c.saturating_sub-2.ensures, c.saturating_sub.ensures, part.visible_part-part.ensures)
+    let s = c.args in
+    let fits = count_fits (point_of s.corner) s.size s.direction s.window _ (search rules) c.visible_part-part.ensures in
+    rw (c.len-2.ensures, c.len.ensures) (omega (arith, fits))

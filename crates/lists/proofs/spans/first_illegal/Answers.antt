@@ -3,7 +3,6 @@
 use mathlib.Core.Path.{◌≡◌, refl, sym, ◌∙◌}
 use mathlib.Core.Bool.{true}
 use native.Mathlib.Omega.{arith}
-use borrow.Author.Tests.{not-true, not-false}
 use Rattle.entries.specs.Legality.{legal_at}
 use Rattle.entries.proofs.Finds.{legal-inside}
 use Rattle.lists.proofs.Finds.{first-none, first-here, first_next}
@@ -14,7 +13,7 @@ loop-left-init c = refl
 
 legal : (c : goal.Else-not-legal_at)
     → legal_at c.args.list.now c.loop-left.place ≡ true
-legal c = sym c.legal_at.ensures ∙ not-false _ c.if-not-legal_at.false-raw
+legal c = sym c.legal_at.ensures ∙ c.if-not-legal_at.false
 
 pub overflow_add-place : goal.overflow_add-place
 overflow_add-place c = omega (arith, legal-inside _ _ (legal c))
@@ -27,4 +26,4 @@ returns-then-left-lt1 c = sym (c.loop-left.invariant ∙ first-none _ _ _ (omega
 
 pub returns-then-not-legal_at : goal.returns-then-not-legal_at
 returns-then-not-legal_at c =
-    sym (c.loop-left.invariant ∙ first-here _ _ _ (omega arith) (sym c.legal_at.ensures ∙ not-true _ c.if-not-legal_at.true-raw))
+    sym (c.loop-left.invariant ∙ first-here _ _ _ (omega arith) (sym c.legal_at.ensures ∙ c.if-not-legal_at.true))

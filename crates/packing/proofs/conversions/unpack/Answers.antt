@@ -1,20 +1,16 @@
--- A status that is done has room for its entries, and any other has none (`unpack-room`), so that the output is as it must be
--- (`unpack-leaves`).
+-- A refusal leaves the output as it is (`unpack-refused`). A conversion that is done has room for its entries (`unpack-room`), and writes
+-- what it must (`unpack-done`).
 use lib.ListN.{length}
-use Rattle.packing.proofs.Answers.{unpack-room, unpack-leaves}
+use Rattle.std.proofs.lemmas.Result.{err_from_is_err_and}
+use Rattle.packing.proofs.Answers.{unpack-refused, unpack-room, unpack-done}
 use Rattle.packing.proofs.conversions.unpack.Goals as goal
 
+pub returns-in_err-size : goal.returns-in_err-size
+returns-in_err-size c =
+    let p = err_from_is_err_and c.from_residual.result c.from_residual.ensures.1 in rw (p.1, p.2) (unpack-refused _ _ _ c.in_err-size.ensures)
+
 pub write_entries-requires : goal.write_entries-requires
-write_entries-requires c = let w = c.before in
-    let a = w.before in
-    let s = a.args in
-    unpack-room s.input.now (length s.output.now) w.written-count.result a.unpack_status-status.result a.unpack_status-status.ensures
-    w.written-count.ensures
+write_entries-requires c = unpack-room c.args.input.now (length c.args.output.now) c.in_ok-size.size c.in_ok-size.ensures
 
 pub returns : goal.returns
-returns c = let g = c.before.before in
-    let w = g.before.before in
-    let a = w.before in
-    let s = a.args in
-    unpack-leaves s.input.now s.output.now _ w.written-count.result a.unpack_status-status.result a.unpack_status-status.ensures
-    w.written-count.ensures g.write_entries.ensures
+returns c = unpack-done _ _ _ _ c.in_ok-size.ensures c.write_entries.ensures

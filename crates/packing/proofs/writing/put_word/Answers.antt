@@ -1,17 +1,9 @@
--- Four stores one after the other are one run of four bytes (`set-four`).
-use native.Mathlib.Omega.{arith}
-use lib.ListN.{length-set}
-use Rattle.packing.proofs.Runs.{set-four}
+-- Four bytes copied over four are one run (`set-part`).
+use mathlib.Core.Path.{◌∙◌}
+use Rattle.packing.specs.Editions.{word_bytes}
+use Rattle.packing.proofs.Runs.{set-part}
 use Rattle.packing.proofs.writing.put_word.Goals as goal
 
-pub bounds-out-at-2 : goal.bounds-out-at-2
-bounds-out-at-2 c = simp length-set (omega arith)
-
-pub bounds-out-at-3 : goal.bounds-out-at-3
-bounds-out-at-3 c = simp length-set (omega arith)
-
-pub bounds-out-at-4 : goal.bounds-out-at-4
-bounds-out-at-4 c = simp length-set (omega arith)
-
 pub returns : goal.returns
-returns c = set-four c.args.out.now c.args.at _ _ _ _
+returns c =
+    set-part c.args.out.now (word_bytes c.args.word) _ c.args.at c.requires (c.copy_from_slice.ensures.after ∙ c.to_be_bytes.ensures)

@@ -6,5 +6,5 @@ use Rattle.pictures.proofs.headers.longer.Goals as goal
 pub returns-then-v-gt4294967295 : goal.returns-then-v-gt4294967295
 returns-then-v-gt4294967295 c = longer-past _ _ c.if-v-gt4294967295.true
 
-pub overflow_sub-result : goal.overflow_sub-result
-overflow_sub-result c = digit-least _ c.requires
+pub overflow_sub-b : goal.overflow_sub-b
+overflow_sub-b c = digit-least _ c.requires

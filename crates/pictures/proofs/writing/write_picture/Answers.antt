@@ -7,10 +7,10 @@ use Rattle.pictures.proofs.writing.write_picture.Goals as goal
 pub returns-then-pixels-area : goal.returns-then-pixels-area
 returns-then-pixels-area c = write-wrong-size _ _ _ _ _ c.area.ensures c.if-pixels-area.true
 
-pub returns-then-output-size : goal.returns-then-output-size
-returns-then-output-size c =
+pub returns-then-output-bytes : goal.returns-then-output-bytes
+returns-then-output-bytes c =
     let o = c.before.before in
-    write-too-short _ _ _ _ _ o.area.ensures o.if-pixels-area.false _ c.picture_size-size.ensures c.if-output-size.true
+    write-too-short _ _ _ _ _ o.area.ensures o.if-pixels-area.false _ c.bytes-bytes.ensures c.if-output-bytes.true
 
 pub put_bytes-requires : goal.put_bytes-requires
 put_bytes-requires c =
@@ -23,5 +23,5 @@ returns c =
     let p = q.before.before.before.before in
     let s = p.before.before.before in
     let o = s.before in
-    write_done _ _ _ _ _ o.area.ensures o.if-pixels-area.false _ s.picture_size-size.ensures _ _ (omega arith) p.put_header-start.ensures
+    write_done _ _ _ _ _ o.area.ensures o.if-pixels-area.false _ s.bytes-bytes.ensures _ _ (omega arith) p.put_header-start.ensures
     q.put_bytes.ensures

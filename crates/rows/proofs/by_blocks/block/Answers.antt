@@ -6,6 +6,5 @@ use Rattle.rows.proofs.by_blocks.block.Goals as goal
 
 pub returns : goal.returns
 returns c =
-    let o = c.before.before.before.before.before.before in
-    let a = o.args in
-    copied-kept (mixed a.mix) 32 a.buffer.now a.at a.buffer.now a.from _ _ _ (lit≤ tt) o.copy_bytes.ensures c.mix_bytes.ensures
+    let a = c.args in
+    copied-kept (mixed a.mix) 32 a.buffer.now a.at a.buffer.now a.from _ _ _ (lit≤ tt) c.copy_bytes.ensures c.mix_bytes.ensures

@@ -1,38 +1,20 @@
--- The loop keeps `Swept`: the pixels of so many blocks are drawn. Each turn is one block more, by `moved-block`.
+-- Each turn is one block more (`block-more`), at the place that the direction gives.
 use native.Mathlib.Omega.{arith}
-use mathlib.Core.Path.{refl}
-use Prim.Native.Nat.{◌+◌}
+use Rattle.lemmas.proofs.Sweeps.{sweep-start}
 use Rattle.rows.specs.Rows.{mixed}
-use Rattle.lemmas.proofs.Sweeps.{sweep-start, swept-start, swept-turn}
-use Rattle.rows.proofs.Within.{moved-block}
+use Rattle.rows.proofs.Within.{is-back, block-more, visits-end}
 use Rattle.rows.proofs.by_blocks.blocks.Goals as goal
 
-pub loop-k-init : goal.loop-k-init
-loop-k-init c = swept-start _ _ _ (sweep-start _ _ _)
+pub loop-b-init : goal.loop-b-init
+loop-b-init g c = sweep-start _ _ _
 
-pub overflow_sub-n : goal.overflow_sub-n
-overflow_sub-n c = omega arith
+pub loop-b-preserved : goal.loop-b-preserved
+loop-b-preserved g c =
+    let a = c.args in
+    block-more (is-back g.row.BACK) (mixed a.mix) a.n a.at a.from c.loop-b.b _ a.buffer.now _ _ (omega arith) c.by_side-i.ensures
+    c.requires.3 c.loop-b.invariant c.block.ensures
 
-pub overflow_add-at : goal.overflow_add-at
-overflow_add-at c = omega arith
-
-pub overflow_add-from : goal.overflow_add-from
-overflow_add-from c = omega arith
-
-pub overflow_add-k : goal.overflow_add-k
-overflow_add-k c = omega arith
-
-pub loop-k-smaller : goal.loop-k-smaller
-loop-k-smaller c = omega arith
-
-pub loop-k-preserved : goal.loop-k-preserved
-loop-k-preserved c =
-    let o = c.before.before.before.before.before in
-    let a = o.args in
-    let k = o.loop-k.k in
-    let x = o.loop-k.invariant in
-    swept-turn x 32 _ (omega arith) c.block.auto.buffer
-    (moved-block (mixed a.mix) k 32 (k + 32) a.buffer.now o.loop-k.buffer _ a.at a.from refl o.requires.2 x.done c.block.ensures)
-
-pub shape_of-buffer : goal.shape_of-buffer
-shape_of-buffer c = omega arith
+pub returns : goal.returns
+returns g c =
+    let a = c.args in
+    visits-end (is-back g.row.BACK) (mixed a.mix) a.n a.at a.from a.buffer.now _ _ (omega arith) (omega arith) c.loop-b.invariant

@@ -1,10 +1,8 @@
-use Prim.Native.Nat.{◌-◌}
-use Rattle.rows.specs.Rows.{mixed, moved}
-use Rattle.lemmas.proofs.Sweeps.{Swept}
+use mathlib.Core.Path.{◌≡◌}
+use Prim.Native.Nat.{◌*◌}
+use Rattle.rows.specs.Rows.{mixed}
+use Rattle.rows.proofs.Within.{is-back, visits}
 use Rattle.rows.proofs.by_blocks.blocks.Given as goal
 
-abbrev pub invariant-loop-k : goal.invariant-loop-k
-invariant-loop-k l = Swept (λ k'. moved (mixed l.mix) k' l.initial.buffer l.at l.from) l.n l.initial.buffer l.buffer l.k
-
-abbrev pub decreases-loop-k : goal.decreases-loop-k
-decreases-loop-k l = l.n - l.k
+abbrev pub invariant-loop-b : goal.invariant-loop-b
+invariant-loop-b g l = l.buffer ≡ visits (is-back g.row.BACK) (mixed l.mix) l.n l.at l.from (32 * l.b) l.initial.buffer

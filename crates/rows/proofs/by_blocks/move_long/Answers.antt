@@ -1,32 +1,21 @@
--- Blocks, and the last 32 pixels mixed aside, are the row where no visit reads what another wrote (`moved-last`); else the
--- pixels after the blocks follow one by one (`moved_more`).
+-- Blocks, and the last 32 pixels mixed aside, are the row where no visit reads what another wrote (`shifted-last`); else the
+-- pixels after the blocks follow one by one (`shifted-more`).
 use native.Mathlib.Omega.{arith}
-use Prim.Native.Nat.{◌-◌}
 use lib.Dec.{lit≤}
 use Rattle.rows.specs.Rows.{mixed}
-use Rattle.rows.proofs.Within.{moved_more}
-use Rattle.rows.proofs.Parts.{moved-last}
+use Rattle.rows.proofs.Within.{is-back, shifted-more}
+use Rattle.rows.proofs.Parts.{shifted-last}
 use Rattle.rows.proofs.by_blocks.move_long.Goals as goal
 
-pub overflow_sub-n : goal.overflow_sub-n
-overflow_sub-n c = omega arith
-
-pub returns-then-is_clear : goal.returns-then-is_clear
-returns-then-is_clear c =
-    let e = c.before.before in
-    let y = e.before.before.before in
-    let d = y.before.before.before.before in
-    let t = d.before.before.before in
-    let o = t.before.before.before.before in
-    let s = o.before.before in
-    let a = s.args in
-    moved-last a.n d.blocks-k.result (a.n - 32) 32 a.buffer.now _ _ _ _ _ a.at s.requires.1 (omega arith) (omega arith) (omega arith)
-    (lit≤ tt) o.copy_bytes.ensures e.copy_bytes-then-is_clear.ensures (mixed a.mix) a.from
-    (y.is_clear.ensures y.if-is_clear.true) d.blocks-k.ensures.2 t.mix_bytes.ensures
+pub returns-then-reads_first : goal.returns-then-reads_first
+returns-then-reads_first g c =
+    let a = c.args in
+    shifted-last (mixed a.mix) a.n _ 32 a.buffer.now _ _ _ _ _ a.at a.from c.requires.1 c.requires.0 (omega arith) (omega arith) (lit≤ tt)
+    (is-back g.row.BACK) _ _ c.by_side-first.ensures c.by_side-z.ensures (c.reads_first.ensures c.if-reads_first.true) c.blocks-2.ensures
+    c.copy_bytes.ensures c.mix_bytes.ensures c.copy_bytes-then-reads_first.ensures
 
 pub returns : goal.returns
-returns c =
-    let d = c.before.before.before.before.before.before.before.before in
-    let a = d.args in
-    moved_more (mixed a.mix) d.blocks-k.result (a.n - d.blocks-k.result) a.n a.buffer.now _ _ a.at a.from (omega arith)
-    d.blocks-k.ensures.2 c.mix_within.ensures
+returns g c =
+    let a = c.args in
+    shifted-more (is-back g.row.BACK) (mixed a.mix) a.n _ _ _ a.buffer.now _ _ a.at a.from (omega arith) c.by_side-first.ensures
+    c.by_side-rest.ensures c.blocks-2.ensures c.move_bytes.ensures

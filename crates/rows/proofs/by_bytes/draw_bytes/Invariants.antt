@@ -1,10 +1,6 @@
-use Prim.Native.Nat.{◌-◌}
+use mathlib.Core.Path.{◌≡◌}
 use Rattle.rows.specs.Rows.{filled}
-use Rattle.lemmas.proofs.Sweeps.{Swept}
 use Rattle.rows.proofs.by_bytes.draw_bytes.Given as goal
 
 abbrev pub invariant-loop-k : goal.invariant-loop-k
-invariant-loop-k l = Swept (λ k'. filled l.pen k' l.initial.buffer l.at) l.n l.initial.buffer l.buffer l.k
-
-abbrev pub decreases-loop-k : goal.decreases-loop-k
-decreases-loop-k l = l.n - l.k
+invariant-loop-k l = l.buffer ≡ filled l.pen l.k l.initial.buffer l.at

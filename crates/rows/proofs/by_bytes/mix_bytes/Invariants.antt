@@ -1,10 +1,6 @@
-use Prim.Native.Nat.{◌-◌}
-use Rattle.rows.specs.Rows.{mixed, copied}
-use Rattle.lemmas.proofs.Sweeps.{Swept}
+use mathlib.Core.Path.{◌≡◌}
+use Rattle.rows.specs.Rows.{copied}
 use Rattle.rows.proofs.by_bytes.mix_bytes.Given as goal
 
 abbrev pub invariant-loop-k : goal.invariant-loop-k
-invariant-loop-k l = Swept (λ k'. copied (mixed l.mix) k' l.initial.buffer l.at l.source l.from) l.n l.initial.buffer l.buffer l.k
-
-abbrev pub decreases-loop-k : goal.decreases-loop-k
-decreases-loop-k l = l.n - l.k
+invariant-loop-k g l = l.buffer ≡ copied (g.I.Ink.byte l.ink) l.k l.initial.buffer l.at l.source l.from

@@ -1,37 +1,19 @@
--- The loop keeps `Swept`: k visits are done. Each turn is one visit more, by `sweep-more`.
-use native.Mathlib.Omega.{arith}
-use mathlib.Core.Path.{refl}
-use Rattle.lemmas.proofs.Sweeps.{sweep-start, sweep-more, swept-start, swept-set, swept-end}
+-- Each turn is one visit more (`visit-more`), at the place that the direction gives; n visits are the row (`visits-end`).
+use Rattle.lemmas.proofs.Sweeps.{sweep-start}
+use Rattle.rows.proofs.Within.{is-back, visit-more, visits-end}
 use Rattle.rows.proofs.by_bytes.move_bytes.Goals as goal
 
 pub loop-k-init : goal.loop-k-init
-loop-k-init c = swept-start _ _ _ (sweep-start _ _ _)
-
-pub overflow_add-buffer : goal.overflow_add-buffer
-overflow_add-buffer c = omega arith
-
-pub bounds-buffer-from : goal.bounds-buffer-from
-bounds-buffer-from c = omega arith
-
-pub overflow_add-buffer-in-loop-k : goal.overflow_add-buffer-in-loop-k
-overflow_add-buffer-in-loop-k c = omega arith
-
-pub bounds-buffer-at : goal.bounds-buffer-at
-bounds-buffer-at c = omega arith
-
-pub overflow_add-k : goal.overflow_add-k
-overflow_add-k c = omega arith
-
-pub loop-k-smaller : goal.loop-k-smaller
-loop-k-smaller c = omega arith
+loop-k-init g c = sweep-start _ _ _
 
 pub loop-k-preserved : goal.loop-k-preserved
-loop-k-preserved c =
-    let x = c.loop-k.invariant in
-    swept-set x _ _ (omega arith) (sweep-more _ _ _ _ _ _ x.done refl)
-
-pub shape_of-buffer : goal.shape_of-buffer
-shape_of-buffer c = omega arith
+loop-k-preserved g c =
+    let a = c.args in
+    visit-more (is-back g.row.BACK) (g.I.Ink.byte a.ink) a.n a.at a.from a.buffer.now c.loop-k.k _ _ _ c.by_side-i.ensures
+    c.loop-k.invariant c.byte.ensures
 
 pub returns : goal.returns
-returns c = swept-end c.loop-k.invariant c.loop-k-test.false
+returns g c =
+    let a = c.args in
+    visits-end (is-back g.row.BACK) (g.I.Ink.byte a.ink) a.n a.at a.from a.buffer.now _ _ c.loop-k.auto.k-end c.loop-k-test.false
+    c.loop-k.invariant

@@ -1,10 +1,6 @@
-use Prim.Native.Nat.{◌-◌}
-use Rattle.rows.specs.Rows.{moved}
-use Rattle.lemmas.proofs.Sweeps.{Swept}
+use mathlib.Core.Path.{◌≡◌}
+use Rattle.rows.proofs.Within.{is-back, visits}
 use Rattle.rows.proofs.by_bytes.move_bytes.Given as goal
 
 abbrev pub invariant-loop-k : goal.invariant-loop-k
-invariant-loop-k l = Swept (λ k'. moved (λ s d. s) k' l.initial.buffer l.at l.from) l.n l.initial.buffer l.buffer l.k
-
-abbrev pub decreases-loop-k : goal.decreases-loop-k
-decreases-loop-k l = l.n - l.k
+invariant-loop-k g l = l.buffer ≡ visits (is-back g.row.BACK) (g.I.Ink.byte l.ink) l.n l.at l.from l.k l.initial.buffer

@@ -1,48 +1,22 @@
--- The loop keeps `Swept`: the pixels of so many whole blocks are drawn. Each turn is one block more (`block_more`).
+-- Each turn is one block more (`block_more`).
 use native.Mathlib.Omega.{arith}
-use borrow.Author.Rules.{rules}
-use mathlib.Core.Path.{refl, ◌∙◌}
-use Rattle.rows.specs.Rows.{mixed}
-use Rattle.lemmas.proofs.Sweeps.{sweep-start, swept-start, swept-turn, swept-end}
+use mathlib.Core.Path.{refl}
+use Rattle.lemmas.proofs.Sweeps.{sweep-start, sweep-end}
 use Rattle.rows.proofs.Tiles.{block_more}
 use Rattle.rows.proofs.tiled.mix_blocks.Goals as goal
 
 pub loop-k-init : goal.loop-k-init
-loop-k-init c = (refl, swept-start _ _ _ (sweep-start _ _ _))
-
-pub overflow_add-at : goal.overflow_add-at
-overflow_add-at c = omega arith
-
-pub mix_bytes-requires : goal.mix_bytes-requires
-mix_bytes-requires c = (omega arith, search rules)
-
-pub overflow_add-at-in-loop-k : goal.overflow_add-at-in-loop-k
-overflow_add-at-in-loop-k c = omega arith
-
-pub overflow_add-at-in-loop-k-2 : goal.overflow_add-at-in-loop-k-2
-overflow_add-at-in-loop-k-2 c = omega arith
-
-pub mix_bytes-requires-in-loop-k : goal.mix_bytes-requires-in-loop-k
-mix_bytes-requires-in-loop-k c = (omega arith, search rules)
-
-pub overflow_add-k : goal.overflow_add-k
-overflow_add-k c = omega arith
-
-pub loop-k-smaller : goal.loop-k-smaller
-loop-k-smaller c = omega arith
+loop-k-init g c = (refl, omega arith, sweep-start _ _ _)
 
 pub loop-k-preserved : goal.loop-k-preserved
-loop-k-preserved c =
+loop-k-preserved g c =
     let a = c.args in
     let x = c.loop-k.invariant in (
       omega arith,
-      swept-turn x.1 32 _ (omega arith) (c.mix_bytes-in-loop-k.auto.buffer ∙ c.mix_bytes.auto.buffer)
-          (block_more (mixed a.mix) a.buffer.now a.at a.pixels c.loop-k.k c.loop-k.buffer _ _ x.0 x.1.done
-          c.mix_bytes.ensures c.mix_bytes-in-loop-k.ensures),
+      omega arith,
+      block_more (g.I.Ink.byte a.ink) a.buffer.now a.at a.pixels c.loop-k.k c.loop-k.buffer _ _ x.0 x.2
+          c.mix_bytes.ensures c.mix_bytes-in-loop-k.ensures,
     )
 
-pub shape_of-buffer : goal.shape_of-buffer
-shape_of-buffer c = omega arith
-
 pub returns : goal.returns
-returns c = swept-end c.loop-k.invariant.1 c.loop-k-test.false
+returns g c = sweep-end _ _ _ _ _ _ c.loop-k.invariant.1 c.loop-k-test.false c.loop-k.invariant.2

@@ -1,10 +1,8 @@
--- What was copied aside is the source as it was (`copied-kept`).
-use borrow.Author.Rules.{rules}
-use Rattle.rows.proofs.Within.{copied-kept}
+-- As visits (`copied-at-once`).
+use Rattle.rows.proofs.Copies.{copied-at-once}
 use Rattle.rows.proofs.unmixed.copy_at_once.Goals as goal
 
 pub returns : goal.returns
 returns c =
-    let o = c.before.before.before.before.before.before in
-    let a = o.args in
-    copied-kept (λ s d. s) a.n a.buffer.now a.at a.source.now a.from _ _ _ (search rules) o.copy_bytes.ensures c.copy_bytes-2.ensures
+    let a = c.args in
+    copied-at-once a.n a.buffer.now a.at c.requires.0 a.source.now a.from c.requires.1 _ c.copy_from_slice.ensures.after

@@ -4,9 +4,6 @@ use Rattle.rows.proofs.unmixed.fill_twice.Goals as goal
 
 pub returns : goal.returns
 returns c =
-    let e = c.before.before in
-    let o = e.before.before.before.before in
-    let s = o.before.before.before in
-    let a = s.args in
-    filled-twice a.x a.n a.b a.b a.buffer.now _ _ a.at s.requires.2 s.requires.0 s.requires.1 s.requires.0
-    o.fill_bytes.ensures e.fill_bytes-2.ensures
+    let a = c.args in
+    filled-twice a.x a.n a.b a.b a.buffer.now _ _ a.at c.requires.2 c.requires.0 c.requires.1 c.requires.0
+    c.fill_bytes.ensures c.fill_bytes-2.ensures

@@ -5,6 +5,5 @@ use Rattle.rows.proofs.unmixed.move_at_once.Goals as goal
 
 pub returns : goal.returns
 returns c =
-    let o = c.before.before.before.before.before.before in
-    let a = o.args in
-    copied-kept (λ s d. s) a.n a.buffer.now a.at a.buffer.now a.from _ _ _ (search rules) o.copy_bytes.ensures c.copy_bytes-2.ensures
+    let a = c.args in
+    copied-kept (λ s d. s) a.n a.buffer.now a.at a.buffer.now a.from _ _ _ (search rules) c.copy_at_once.ensures c.copy_at_once-2.ensures

@@ -1,31 +1,26 @@
--- The grounds in their order (`import-wrong-size`, `import-busy`); else the answer is that of reading the picture (`import-by`). The
--- area fits 64 bits (`product-fits`).
-use native.Mathlib.Omega.{arith}
-use borrow.Author.Rules.{rules}
+-- The grounds in their order (`import-wrong-size`, `import-busy`); else the answer is that of reading the picture (`import-by`).
+use mathlib.Core.Path.{refl}
 use borrow.Author.Tests.{not-true, not-false}
-use Rattle.geometry.proofs.Clips.{product-fits}
+use Rattle.answers.proofs.Refusals.{refused}
 use Rattle.slots.proofs.Rasters.{import-wrong-size, import-busy, import-by}
 use Rattle.slots.proofs.picturing.import_into.Goals as goal
 
-pub overflow_mul-area : goal.overflow_mul-area
-overflow_mul-area c =
-    let x = c.args.z.extent in
-    omega (arith, product-fits x.width x.height (search rules) (search rules))
+pub returns-in_err-named : goal.returns-in_err-named
+returns-in_err-named c =
+    rw (refused c.from_residual.ensures.1 c.in_err-named.ensures.0) (import-wrong-size _ _ _ _ _ _ c.in_err-named.ensures.1)
 
-pub returns-then-not-number-buffer : goal.returns-then-not-number-buffer
-returns-then-not-number-buffer c = import-wrong-size _ _ _ _ _ _ (not-true _ c.if-not-number-buffer.true-raw)
+pub returns-in_err-none_taken : goal.returns-in_err-none_taken
+returns-in_err-none_taken c =
+    rw (refused c.from_residual-in_err-none_taken.ensures.1 c.in_err-none_taken.ensures.0)
+    (import-busy _ _ _ _ _ _ c.in_ok-named.ensures (not-false _ c.in_err-none_taken.ensures.1))
 
-pub returns-then-a-p : goal.returns-then-a-p
-returns-then-a-p c = import-busy _ _ _ _ _ _ (not-false _ c.if-not-number-buffer.false-raw) c.if-a-p.true
+pub returns-in_err-read_picture : goal.returns-in_err-read_picture
+returns-in_err-read_picture c =
+    rw (refused c.from_residual-in_err-read_picture.ensures.1 refl)
+    (import-by _ _ _ _ _ _ c.in_ok-named.ensures (not-true _ c.in_ok-none_taken.ensures) _ _ _ c.read_picture.ensures
+    c.in_err-read_picture.was)
 
-pub returns-in-Done : goal.returns-in-Done
-returns-in-Done c =
-    import-by _ _ _ _ _ _ (not-false _ c.if-not-number-buffer.false-raw) c.if-a-p.false _ _ _ c.read_picture.ensures c.in-Done.is
-
-pub returns-in-WrongSize : goal.returns-in-WrongSize
-returns-in-WrongSize c =
-    import-by _ _ _ _ _ _ (not-false _ c.if-not-number-buffer.false-raw) c.if-a-p.false _ _ _ c.read_picture.ensures c.in-WrongSize.is
-
-pub returns-in-NotAPicture : goal.returns-in-NotAPicture
-returns-in-NotAPicture c =
-    import-by _ _ _ _ _ _ (not-false _ c.if-not-number-buffer.false-raw) c.if-a-p.false _ _ _ c.read_picture.ensures c.in-NotAPicture.is
+pub returns : goal.returns
+returns c =
+    import-by _ _ _ _ _ _ c.in_ok-named.ensures (not-true _ c.in_ok-none_taken.ensures) _ _ _ c.read_picture.ensures
+    c.in_ok-read_picture.was

@@ -1,5 +1,5 @@
--- `bytes_at` has the bytes, of which the buffer has all sixteen.
+use Rattle.tiles.proofs.Pixels.{row-had}
 use Rattle.tiles.proofs.taking.row_within.Goals as goal
 
 pub returns : goal.returns
-returns c = rw c.bytes_at.ensures
+returns c = row-had c.args.buffer.now _ c.args.at c.requires c.copy_from_slice.ensures.after

@@ -4,9 +4,6 @@ use Rattle.board.proofs.bare.Bare.leap.Goals as goal
 
 pub returns : goal.returns
 returns c =
-    let done = c.before.before.before.before.before.before.before in
-    let start = done.before.before.before.before.before.before.before.before.before.before in
-    let s = start.args in
-    leap-is s.budget s.list.now s.self s.display.now s.virt.now _ _ _ start.requires.0 start.requires.1
-    done.run_list-r.ensures _
-    start.requires.2 c.moved.ensures
+    let s = c.args in
+    leap-is s.budget s.list.now s.self s.display.now s.virt.now _ _ _ c.requires.0 c.requires.1 c.run_list-r.ensures _ c.requires.2
+    c.moved.ensures

@@ -4,7 +4,4 @@ use Rattle.board.proofs.bare.Bare.well_formed.Goals as goal
 
 pub returns : goal.returns
 returns c d v =
-    let p = c.before.before.before in
-    let e = p.before.before in
-    rw (e.in_limits.ensures, e.well_formed-2.ensures, p.well_formed-3.ensures, p.well_formed-4.ensures)
-    (well-tiled e.args.self d v)
+    rw (c.in_limits.ensures, c.well_formed-2.ensures, c.well_formed-3.ensures, c.well_formed-4.ensures) (well-tiled c.args.self d v)

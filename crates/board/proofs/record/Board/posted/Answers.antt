@@ -3,10 +3,10 @@ use Rattle.board.specs.Calls.{posted_of}
 use Rattle.lemmas.proofs.Booleans.{first_of, second-of}
 use Rattle.board.proofs.record.Board.posted.Goals as goal
 
-pub returns-then-a : goal.returns-then-a
+pub returns-then-self : goal.returns-then-self
 unfolding posted_of
-returns-then-a c = first_of _ _ _ c.if-a.true
+returns-then-self c = first_of _ _ _ c.if-self.true
 
 pub returns : goal.returns
 unfolding posted_of
-returns c = rw c.on.ensures (second-of _ _ _ c.if-a.false)
+returns c = rw c.on.ensures (second-of _ _ _ c.if-self.false)

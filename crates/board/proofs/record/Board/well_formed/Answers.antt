@@ -4,10 +4,9 @@ use Rattle.board.proofs.record.Board.well_formed.Goals as goal
 pub returns : goal.returns
 unfolding well_formed
 returns c =
-    let e = c.before.before.before.before in
     rw (
-      e.in_limits.ensures,
-      e.well_formed-2.ensures,
+      c.in_limits.ensures,
+      c.well_formed-2.ensures,
       c.fill_ok.ensures,
       c.well_formed-3.ensures,
       c.well_formed-4.ensures,

@@ -19,10 +19,10 @@ returns-then-is_white c =
     (c.white.ensures _ (sym c.is_white.ensures ∙ c.if-is_white.true))
 
 pub digit-requires : goal.digit-requires
-digit-requires c = sym c.is_digit.ensures ∙ c.if-is_digit.true
+digit-requires c = sym c.is_ascii_digit.ensures.value ∙ c.if-is_ascii_digit.true
 
-pub returns-then-is_digit : goal.returns-then-is_digit
-returns-then-is_digit c =
+pub returns-then-is_ascii_digit : goal.returns-then-is_ascii_digit
+returns-then-is_ascii_digit c =
     let o = c.before.before.before.before.before in
     text-byte _ _ _ _ _ o.if-self.false o.if-b-eq35.false (c.digit.ensures _ _ (search rules) (search rules))
 
@@ -31,4 +31,4 @@ returns c =
     let d = c.before in
     let o = d.before.before.before in
     text-byte _ _ _ _ _ o.if-self.false o.if-b-eq35.false
-    (other-broken _ _ _ _ (sym d.is_white.ensures ∙ d.if-is_white.false) (sym d.is_digit.ensures ∙ c.if-is_digit.false))
+    (other-broken _ _ _ _ (sym d.is_white.ensures ∙ d.if-is_white.false) (sym c.is_ascii_digit.ensures.value ∙ c.if-is_ascii_digit.false))

@@ -12,34 +12,21 @@ pub returns-then-n-eq0 : goal.returns-then-n-eq0
 returns-then-n-eq0 c = moves-none _ _ _ c.if-n-eq0.true
 
 pub overflow_cast-repeat : goal.overflow_cast-repeat
-overflow_cast-repeat c =
-    let first = c.before.before.before in
-    omega (arith, turned-small (c.lesser.result + first.args.n) _ _ c.last_below-last_repeat.ensures (omega (arith, first.well_formed)))
+overflow_cast-repeat c = omega (arith, turned-small (c.min.result + c.args.n) _ _ c.saturating_sub-last_repeat.ensures (omega arith))
 
 pub returns-then-turns-eq0 : goal.returns-then-turns-eq0
 returns-then-turns-eq0 c =
-    let g = c.before in
-    after-within _ _ _ _ _ g.if-n-eq0.false g.last_below-last_repeat.ensures g.lesser.ensures c.if-turns-eq0.true
+    after-within _ _ _ _ _ c.if-n-eq0.false c.saturating_sub-last_repeat.ensures c.min.ensures c.if-turns-eq0.true
 
 pub overflow_add-place : goal.overflow_add-place
-overflow_add-place c =
-    let g = c.before.before.before in
-    let first = g.before.before.before in
-    omega
-    (arith, first.well_formed, g.lesser.ensures, c.lesser-2.ensures, div-le_self (g.lesser.result + first.args.n) (g.last_below-last_repeat.result + 1))
+overflow_add-place c = omega (arith, div-le_self (c.min.result + c.args.n) (c.saturating_sub-last_repeat.result + 1))
 
 pub overflow_cast-result : goal.overflow_cast-result
 overflow_cast-result c =
-    let g = c.before.before.before in
-    let first = g.before.before.before in
-    omega (
-      arith,
-      turned-small (c.lesser-2.result + (g.lesser.result + first.args.n) / (g.last_below-last_repeat.result + 1)) _ _ c.last_below-last_place.ensures
-          (omega (arith, first.well_formed)),
-    )
+    let turns = (c.min.result + c.args.n) / (c.saturating_sub-last_repeat.result + 1) in
+    omega (arith, turned-small (c.min-2.result + turns) _ _ c.saturating_sub-last_place.ensures (omega arith))
 
 pub returns : goal.returns
 returns c =
-    let l = c.before in
-    let g = l.before.before in
-    after-rounds _ _ _ _ _ g.if-n-eq0.false g.last_below-last_repeat.ensures g.lesser.ensures l.if-turns-eq0.false _ _ l.last_below-last_place.ensures c.lesser-2.ensures
+    after-rounds _ _ _ _ _ c.if-n-eq0.false c.saturating_sub-last_repeat.ensures c.min.ensures c.if-turns-eq0.false _ _
+    c.saturating_sub-last_place.ensures c.min-2.ensures

@@ -1,9 +1,0 @@
-use Prim.Native.Nat.{◌-◌}
-use Rattle.blits.proofs.Loops.{Visiting}
-use Rattle.blits.proofs.draw_visits.Given as goal
-
-abbrev pub invariant-loop-k : goal.invariant-loop-k
-invariant-loop-k l = Visiting l.b l.other l.first l.n l.initial.buffer l.buffer l.row l.column l.k
-
-abbrev pub decreases-loop-k : goal.decreases-loop-k
-decreases-loop-k l = l.n - l.k

@@ -1,0 +1,7 @@
+-- The row that is copied.
+use mathlib.Core.Bool.{false}
+use Rattle.blits.proofs.Painted.{copied-from}
+use Rattle.blits.proofs.row_loops.ShortCopyDrawRow.draw.Goals as goal
+
+pub returns : goal.returns
+returns c = let r = c.requires in copied-from false _ _ _ _ _ _ _ r.2 r.3 (c.copy_short_row.ensures r.0 r.1)
