@@ -9,7 +9,10 @@ use borrow.Author.Tests.{leb-true, eq-eqb, ne_eqb}
 use lib.Dec.{eqb, leb}
 use lib.ListN.{length}
 use Rattle.lemmas.proofs.Booleans.{by_cases, and_left, and_right, both, of_either}
-use Rattle.answers.specs.Reports.{Report, report}
+use Rattle.std.specs.Prelude.{Result, Err, IsErrAnd}
+use Rattle.answers.specs.Reports.{Report, report, report_of}
+use Rattle.answers.specs.declared.Refusal.{Refusal}
+use Rattle.answers.proofs.Refusals.{refused}
 use Rattle.lemmas.specs.Memory.{put_into}
 use Rattle.slots.specs.Calls.{Lent, leaves, holds_any, store_report}
 use Rattle.slots.specs.declared.record.Sizes.{Sizes}
@@ -25,6 +28,10 @@ good-next z f ok = leb-true f.next z.entries (and_right (held_ok f) (leb f.next 
 
 pub good-held : (z : Sizes) (f : Feed) → feed_ok z f ≡ true → held_ok f ≡ true
 good-held z f ok = and_left (held_ok f) (leb f.next z.entries) ok
+
+-- what a refusal answers that `?` hands on
+pub handed-on : (r : Result ℕ Refusal) (e why : Refusal) (x : Report) → e ≡ why → IsErrAnd r (λ y. y ≡ e) → report_of (Err why) ≡ x → report_of r ≡ x
+handed-on r e why x is handed told = ap report_of (refused handed is) ∙ told
 
 abbrev lent_of : Report → List ℕ → Lent
 lent_of report memory = record { report = report; memory = memory }

@@ -7,10 +7,10 @@ use Rattle.std.specs.Prelude.{Option, None, Some}
 use Rattle.std.specs.Bool.{then_some}
 use Prim.Native.Nat.{ℕ, suc, ◌+◌, ◌-◌, ◌*◌, ◌/◌, ◌%◌, ◌≤◌, ◌<◌, min}
 use native.Mathlib.Omega.{arith}
-use borrow.Author.Tests.{ne_eqb, eqb-true, eqb-false, ltb-true, ltb-false, leb-true, leb-false}
+use borrow.Author.Tests.{ne_eqb, lt-ltb, eqb-true, eqb-false, ltb-true, ltb-false, leb-true, leb-false}
 use lib.Dec.{eqb, leb, ltb}
 use lib.ListN.{length, get_or}
-use Rattle.lemmas.proofs.Booleans.{by_cases, and_left, and_right}
+use Rattle.lemmas.proofs.Booleans.{by_cases, both, and_left, and_right}
 use Rattle.geometry.specs.declared.Extent.{Extent}
 use Rattle.entries.specs.Layout.{entry_of, word_at}
 use Rattle.entries.specs.Legality.{data_legal, entry_legal}
@@ -266,6 +266,22 @@ module _ (l : List ℕ) (extent : Extent) (budget : ℕ) (c₀ : Cursor) (s₀ :
       resting-stops l extent budget c₀ s₀ k c e d v below resting Broken true
       (sym (next-read l c false refl left None None (sym none) refl)) (λ _ _ _. refl)))
       (λ t. resting-spent l extent budget c₀ s₀ k c e d v (ltb-false k budget t) resting)
+
+-- a turn by a register that triggers nothing
+module _ (l : List ℕ) (extent : Extent) (budget : ℕ) (c₀ : Cursor) (s₀ : Scene) (k : ℕ) (c : Cursor) (e : Engine) (d v : List ℕ) (below : k < budget)
+    (resting : Resting l extent budget c₀ s₀ k c e d v) (more : c.next < end_of c.span) (inside : c.next < length l / 5) where
+  pub turn-put : (number : ℕ) → get_or l (5 * c.next) 0 ≡ 8 * number → is_trigger number ≡ false → (legal : Bool) → legal ≡ true
+      → legal ≡ data_legal number (word_at l c.next) → (f : Engine) → f ≡ put_of e number (word_at l c.next)
+      → Resting l extent budget c₀ s₀ (k + 1) (fetched_of c) f d v
+  turn-put number h plain legal t q f p =
+      let stop = end_of c₀.span in
+      let end = min stop (length l / 5) in
+      let before : c.next < end = omega (arith, more, inside, ap end_of resting.going.span_same) in
+      let test = both (lt-ltb k budget below) (lt-ltb c.next end before) in
+      let put = p ∙ sym (ap (λ t. cond t (put_of e number (word_at l c.next)) e) t) in
+      let done = put-done l c.next inside extent (budget - k - 1) e d v number h plain legal q f put in
+      turn-rests l extent budget c₀ s₀ k c e d v resting end stop refl refl test (then_some legal 0) f d v done 0 (ap (λ t. then_some t 0) t) refl refl
+      (ap (λ (f : Engine). f.under_way) p)
 
 -- ---- the steps with no tile held
 

@@ -1,12 +1,12 @@
 -- Bytes put into the output one part after the other: digits, a header, a picture; and the size of a picture.
 -- Assumes nothing.
 use mathlib.Core.Path.{◌≡◌, refl, ap, ap₂, sym, ◌∙◌}
-use mathlib.Core.List.{List, [], ◌∷◌, ◌++◌, append_assoc}
+use mathlib.Core.List.{List, [], ◌∷◌, ◌++◌, append_assoc, append-nil}
 use Prim.Native.Nat.{ℕ, ◌+◌, ◌-◌, ◌*◌, ◌/◌, ◌%◌, ◌≤◌, ◌<◌}
 use native.Mathlib.Omega.{arith}
 use borrow.Author.Tests.{eq-eqb, ne_eqb, le-leb, lt-leb}
 use lib.ListN.{length, set, take, drop, length-append, length-drop}
-use lib.Seq.{sets-eq, take_all, drop-drop}
+use lib.Seq.{sets-eq, take_all, take-length, drop-drop, drop-length}
 use Rattle.lemmas.proofs.Memories.{sets-join, sets-front}
 use Rattle.lemmas.proofs.Products.{product-most}
 use Rattle.pictures.specs.Texts.{ascii}
@@ -21,7 +21,19 @@ use Rattle.pictures.proofs.Decimals.{decimal-last, decimal-tenth, length_most}
 pub part-is : (l : List ℕ) (at : ℕ) → take (length l - at) (drop at l) ≡ drop at l
 part-is l at = take_all (length l - at) (drop at l) (omega (arith, length-drop at l))
 
--- bytes copied over a part as long as they are
+-- bytes copied over such a part
+pub put-copied : (l bytes part : List ℕ) (at n : ℕ) → at + length bytes ≤ length l → n ≡ length bytes
+    → part ≡ take (length bytes) bytes ++ drop (length bytes) (take (length l - at) (drop at l))
+    → lent (at + n) (take at l ++ (part ++ drop (length l - at) (drop at l))) ≡ put_at l at bytes
+put-copied l bytes part at n h e f =
+    let past : at + (length l - at) ≡ length l = omega arith in
+    let none : drop (length l - at) (drop at l) ≡ [] =
+    drop-drop (length l - at) at l ∙ ap (λ (k : ℕ). drop k l) past ∙ drop-length l in
+    ap₂ lent (ap (λ (k : ℕ). at + k) e)
+    (rw (none, append-nil part, f, take-length bytes, part-is l at, drop-drop (length bytes) at l)
+    (sym (append_assoc (take at l) bytes (drop (at + length bytes) l)) ∙ sym (sets-eq bytes l at h)))
+
+-- the same over a part as long as the bytes
 pub put-over : (l bytes part : List ℕ) (at : ℕ) → at + length bytes ≤ length l → part ≡ bytes
     → lent (at + length bytes) (take at l ++ (part ++ drop (at + length bytes - at) (drop at l))) ≡ put_at l at bytes
 put-over l bytes part at h f =

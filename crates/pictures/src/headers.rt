@@ -121,16 +121,16 @@ impl Reader {
                 stage,
             };
         }
-        if is_white(b) {
-            return Reader {
-                comment: false,
-                stage: stage.white(size),
-            };
-        }
         if b.is_ascii_digit() {
             return Reader {
                 comment: false,
                 stage: stage.digit(b),
+            };
+        }
+        if is_white(b) {
+            return Reader {
+                comment: false,
+                stage: stage.white(size),
             };
         }
         Reader {
@@ -151,6 +151,8 @@ impl Reader {
 }
 
 // Whether a text is the numbers of a picture of this size.
+// A function of its own, so that the loop keeps its values in registers.
+#[inline(never)]
 pub(crate) fn says_size(text: &[u8], size: Size) -> bool
     ensures { result ≡ says_size size.width size.height text.now }
 {

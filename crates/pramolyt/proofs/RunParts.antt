@@ -27,7 +27,7 @@ use Rattle.board.proofs.Parts.{none_done, fill-ends, hatch-over, last-is, last-r
 use Rattle.pramolyt.specs.FillImage.{fill_at, tile_in, Kept}
 use Rattle.pramolyt.specs.Image.{words_of, board_of, bare_in, untiled, engine_in}
 use Rattle.pramolyt.specs.Exports.{ran, ran_by}
-use Rattle.pramolyt.specs.Parts.{holds_in, HatchedImage}
+use Rattle.pramolyt.specs.Parts.{holds_in, HatchedImage, Free, HeldDone}
 use Rattle.pramolyt.proofs.RoundTrips.{bare-decoded, decodes-encoded}
 use Rattle.pramolyt.proofs.TakenTiles.{taken-kept}
 
@@ -51,7 +51,7 @@ module _ (budget : ℕ) (l w d₀ v₀ : List ℕ) where
   m = machine (board_of w) d₀ v₀
 
   -- with them the run has ended
-  pub hatched-whole : (part : Part) (w' d v : List ℕ) → HatchedImage budget l w d₀ v₀ part w' d v → (status : Result ℕ Refusal)
+  hatched-whole : (part : Part) (w' d v : List ℕ) → HatchedImage budget l w d₀ v₀ part w' d v → (status : Result ℕ Refusal)
       → part ≡ Break status → (steps : ℕ) → steps ≡ (report_of status).steps → (number : ℕ) → number ≡ (report_of status).number
       → ran number w' steps d v ≡ ran_by (run_call budget l m)
   hatched-whole part w' d v h status is steps stepped number numbered =
@@ -59,13 +59,8 @@ module _ (budget : ℕ) (l w d₀ v₀ : List ℕ) where
       ∙ ap ran_by (fill-ends budget l m h.answer d v h.ran status (sym h.says ∙ is))
 
   -- or it goes on with no tile held, after so many steps
-  pub record Free (done : ℕ) (w' d v : List ℕ) : Type 0 where
-    pub few : done ≤ budget
-    pub run : added done (run_call (budget - done) l (tiled (bare_in w') d v)) ≡ run_call budget l m
-    pub none : hatches (engine_in w') ≡ false
-
-  pub free-later : (part : Part) (w' d v : List ℕ) → HatchedImage budget l w d₀ v₀ part w' d v → (done : ℕ) → part ≡ Continue done
-      → Free done w' d v
+  free-later : (part : Part) (w' d v : List ℕ) → HatchedImage budget l w d₀ v₀ part w' d v → (done : ℕ) → part ≡ Continue done
+      → Free budget l w d₀ v₀ done w' d v
   free-later part w' d v h done is =
       let a = h.answer in
       let on : a.part ≡ Continue done = sym h.says ∙ is in
@@ -73,13 +68,30 @@ module _ (budget : ℕ) (l w d₀ v₀ : List ℕ) where
       let left = hatch-over budget l m a d v h.ran done on (bare_in w') bare in
       record { few = left.few; run = left.run; none = ap (λ (b : Bare). hatches b.engine) bare ∙ (h.ran.free (ap goes_on on)).0 }
 
-  pub free-now : holds_in w ≡ false → Free 0 w d₀ v₀
-  free-now h =
+  -- where a fill is held
+  pub held-fill : (part : Part) (w' d v : List ℕ) → HatchedImage budget l w d₀ v₀ part w' d v → HeldDone budget l w d₀ v₀ part w' d v
+  held-fill (Break status) w' d v h = hatched-whole (Break status) w' d v h status refl _ refl _ refl
+  held-fill (Continue done) w' d v h = free-later (Continue done) w' d v h done refl
+
+  -- and where none is
+  pub held-none : holds_in w ≡ false → HeldDone budget l w d₀ v₀ (Continue 0) w d₀ v₀
+  held-none h =
       let flag = eqb (get_or w fill_at 0) 1 in
       let still = or-none-right flag (hatches (engine_in w)) h in
       let blank = sym (second-of flag (filled_with (tile_in w)) no_fill (or-none-left flag (hatches (engine_in w)) h)) in
       let here : tiled (bare_in w) d₀ v₀ ≡ m = ap (λ b. machine b d₀ v₀) (sym (board-tiled.untiled (board_of w) d₀ v₀ still blank)) in
       record { few = omega arith; run = ap (λ n. added 0 (run_call (budget - 0) l n)) here ∙ none_done budget l m; none = still }
+
+  -- the two ways of a run
+  pub held-ends : (part : Part) (w' d v : List ℕ) → HeldDone budget l w d₀ v₀ part w' d v → (status : Result ℕ Refusal) → part ≡ Break status
+      → (steps : ℕ) → steps ≡ (report_of status).steps → (number : ℕ) → number ≡ (report_of status).number
+      → ran number w' steps d v ≡ ran_by (run_call budget l m)
+  held-ends part w' d v h status is steps stepped number numbered =
+      (λ i. ran (numbered i) w' (stepped i) d v) ∙ subst (λ p. HeldDone budget l w d₀ v₀ p w' d v) is h
+
+  pub held-goes : (part : Part) (w' d v : List ℕ) → HeldDone budget l w d₀ v₀ part w' d v → (done : ℕ) → part ≡ Continue done
+      → Free budget l w d₀ v₀ done w' d v
+  held-goes part w' d v h done is = subst (λ p. HeldDone budget l w d₀ v₀ p w' d v) is h
 
 -- ---- the lists, with no tile held, after so many steps
 module _ (budget : ℕ) (l : List ℕ) (done : ℕ) (w d v : List ℕ) (few : done ≤ budget) (none : hatches (engine_in w) ≡ false) (b : Bare)

@@ -10,7 +10,7 @@ ghost use Rattle.board.specs.Runs.{added, run_call};
 ghost use Rattle.board.specs.Bare.{tiled};
 ghost use Rattle.pramolyt.specs.Exports.{made, make_image, posted, post_image, changed, store_image, write_image, pictured, export_image, import_image, ran, ran_by, run_image, feed_of, received, feed_image, filed, pack_file, unpack_file};
 ghost use Rattle.pramolyt.specs.Image.{bare_in, engine_in};
-ghost use Rattle.pramolyt.specs.Parts.{holds_in, HatchedImage};
+ghost use Rattle.pramolyt.specs.Parts.{holds_in, HatchedImage, HeldDone};
 ghost use Rattle.feeds.specs.Feeds.{start_at};
 
 mod fill_image;
@@ -167,6 +167,22 @@ fn hatch_image(
     ran.part
 }
 
+// The steps of a fill that an image holds, as many as the budget allows; none where it holds none.
+fn hatch_held(
+    board: &mut [u32; WORDS],
+    budget: u64,
+    list: &[u8],
+    display: &mut [u8],
+    virt: &mut [u8],
+) -> Part
+    ensures { HeldDone budget list.now board.old display.old virt.old result board.new display.new virt.new }
+{
+    if !holds(*board) {
+        return ControlFlow::Continue(0);
+    }
+    hatch_image(board, budget, list, display, virt)
+}
+
 // The rest of a run of an image that holds no tile, after so many steps: the lists, and a fill with a tile that the budget cuts.
 fn run_lists(
     board: &mut [u32; WORDS],
@@ -214,10 +230,7 @@ pub fn pramolyt_run_r2(
         *steps = 0;
         return 1;
     }
-    if !holds(w) {
-        return run_lists(board, steps, 0, budget, list, display, virt);
-    }
-    match hatch_image(board, budget, list, display, virt) {
+    match hatch_held(board, budget, list, display, virt) {
         ControlFlow::Break(status) => {
             *steps = status.steps();
             status.number()

@@ -143,6 +143,15 @@ impl Course {
         buffer[at] = new_byte(buffer[at]);
     }
 
+    // The same with a pen. A function of its own, so that the loop keeps its values in registers.
+    #[inline(never)]
+    fn mix(self, buffer: &mut [u8], n: usize, pen: Pen)
+        requires { Places self n (length buffer.old) }
+        ensures { buffer.new ≡ in_turn (plot_at pen self) n buffer.old }
+    {
+        self.draw(buffer, n, |old| pen.draw(old));
+    }
+
     // The same as one row, where each place is next to the one before it.
     fn fill(self, buffer: &mut [u8], n: usize, pen: Pen)
         requires { Places self n (length buffer.old) × InRow self.strides }
@@ -194,7 +203,7 @@ pub(crate) fn draw_visible(buffer: &mut [u8], width: u32, pen: Pen, t: Tracer, n
         course.draw(buffer, n, |_| pen.flip);
         return;
     }
-    course.draw(buffer, n, |old| pen.draw(old));
+    course.mix(buffer, n, pen);
 }
 
 // n pixels in dashes, and the pattern state after them.

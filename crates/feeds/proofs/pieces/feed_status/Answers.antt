@@ -4,9 +4,8 @@ use borrow.Author.Rules.{rules}
 use borrow.Author.Tests.{leb-true, leb-false, not-true, not-false}
 use mathlib.Core.Path.{◌≡◌, sym, ◌∙◌}
 use lib.ListN.{length}
-use Rattle.answers.proofs.Refusals.{refused}
 use Rattle.feeds.proofs.Holding.{count-is}
-use Rattle.feeds.proofs.Reporting.{good-held, feed-malformed, feed-wrong-size, feed-past, feed-held, feed-done}
+use Rattle.feeds.proofs.Reporting.{good-held, handed-on, feed-malformed, feed-wrong-size, feed-past, feed-held, feed-done}
 use Rattle.feeds.proofs.pieces.feed_status.Goals as goal
 
 pub returns-then-not-well_formed : goal.returns-then-not-well_formed
@@ -21,7 +20,7 @@ returns-in_err-within c =
     let s = c.args in
     let ok = sym c.if-not-well_formed.ensures in
     let four : length s.f.held ≡ 4 = search rules in
-    rw (refused c.from_residual.ensures.1 c.in_err-within.ensures.0)
+    handed-on _ _ _ _ c.in_err-within.ensures.0 (search rules)
     (feed-past s.z s.a s.p s.list.now s.f s.piece.now ok (c.if-list-list_len.false ∙ c.list_len.ensures) c.cut-n.result.0
     (count-is s.f s.piece.now (good-held s.z s.f ok) four c.cut-n.result.0 c.cut-n.result.1 c.cut-n.ensures.entries c.cut-n.ensures.over)
     (leb-false _ _ c.in_err-within.ensures.1))
@@ -31,10 +30,10 @@ returns-in_err-none_held c =
     let s = c.args in
     let ok = sym c.if-not-well_formed.ensures in
     let four : length s.f.held ≡ 4 = search rules in
-    rw (refused c.from_residual-in_err-none_held.ensures.1 c.in_err-none_held.ensures.0)
+    handed-on _ _ _ _ c.in_err-none_held.ensures.0 (search rules)
     (feed-held s.z s.a s.p s.list.now s.f s.piece.now ok (c.if-list-list_len.false ∙ c.list_len.ensures) c.cut-n.result.0
     (count-is s.f s.piece.now (good-held s.z s.f ok) four c.cut-n.result.0 c.cut-n.result.1 c.cut-n.ensures.entries c.cut-n.ensures.over)
-    (leb-true _ _ c.in_ok-within.ensures) (not-false _ c.in_err-none_held.ensures.1))
+    (leb-true _ _ (search rules)) (not-false _ c.in_err-none_held.ensures.1))
 
 pub returns : goal.returns
 returns c =

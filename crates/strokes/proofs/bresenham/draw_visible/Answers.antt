@@ -28,8 +28,8 @@ pub returns-then-pen-eq0 : goal.returns-then-pen-eq0
 returns-then-pen-eq0 c = plots-on _ _ _ _ c.requires _ _ _ (rw c.of-course.ensures at (c.draw.ensures c.args.pen
     (λ old new small made. let stored : new ≡ c.args.pen.flip = search rules in stored ∙ flat-drawn c.args.pen old c.if-pen-eq0.true)))
 
-pub draw-requires-2-clause-places : goal.draw-requires-2-clause-places
-draw-requires-2-clause-places c = course-places _ _ _ _ c.requires _ c.of-course.ensures (search rules)
+pub mix-requires : goal.mix-requires
+mix-requires c = course-places _ _ _ _ c.requires _ c.of-course.ensures (search rules)
 
 pub returns : goal.returns
-returns c = plots-on _ _ _ _ c.requires _ _ _ (rw c.of-course.ensures at (c.draw-2.ensures c.args.pen (λ old new small made. search rules)))
+returns c = plots-on _ _ _ _ c.requires _ _ _ (rw c.of-course.ensures at c.mix.ensures)

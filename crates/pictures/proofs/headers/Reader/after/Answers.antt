@@ -12,23 +12,23 @@ returns-then-self c = in-comment _ _ _ _ _ c.if-self.true c.ends_comment.ensures
 pub returns-then-b-eq35 : goal.returns-then-b-eq35
 returns-then-b-eq35 c = comment-starts _ _ _ _ c.if-self.false c.if-b-eq35.true
 
-pub returns-then-is_white : goal.returns-then-is_white
-returns-then-is_white c =
-    let o = c.before.before.before in
-    text-byte _ _ _ _ _ o.if-self.false o.if-b-eq35.false
-    (c.white.ensures _ (sym c.is_white.ensures ∙ c.if-is_white.true))
-
 pub digit-requires : goal.digit-requires
 digit-requires c = sym c.is_ascii_digit.ensures.value ∙ c.if-is_ascii_digit.true
 
 pub returns-then-is_ascii_digit : goal.returns-then-is_ascii_digit
 returns-then-is_ascii_digit c =
-    let o = c.before.before.before.before.before in
+    let o = c.before.before.before in
     text-byte _ _ _ _ _ o.if-self.false o.if-b-eq35.false (c.digit.ensures _ _ (search rules) (search rules))
+
+pub returns-then-is_white : goal.returns-then-is_white
+returns-then-is_white c =
+    let o = c.before.before.before.before.before in
+    text-byte _ _ _ _ _ o.if-self.false o.if-b-eq35.false
+    (c.white.ensures _ (sym c.is_white.ensures ∙ c.if-is_white.true))
 
 pub returns : goal.returns
 returns c =
     let d = c.before in
     let o = d.before.before.before in
     text-byte _ _ _ _ _ o.if-self.false o.if-b-eq35.false
-    (other-broken _ _ _ _ (sym d.is_white.ensures ∙ d.if-is_white.false) (sym c.is_ascii_digit.ensures.value ∙ c.if-is_ascii_digit.false))
+    (other-broken _ _ _ _ (sym c.is_white.ensures ∙ c.if-is_white.false) (sym d.is_ascii_digit.ensures.value ∙ d.if-is_ascii_digit.false))
