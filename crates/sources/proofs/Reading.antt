@@ -23,7 +23,7 @@ use Rattle.registers.specs.declared.file.Registers.{Registers}
 use Rattle.registers.specs.declared.dashes.Pattern.{Pattern}
 use Rattle.tiles.specs.Tiles.{pixel_of}
 use Rattle.tiles.specs.declared.Fill.{Fill}
-use Rattle.sources.specs.Sources.{by_bit, stippled_at, tiled_at, tiled_of, read_of, blit_of, dash_of, source_of}
+use Rattle.sources.specs.Sources.{by_bit, stippled_at, stippled_of, tiled_at, tiled_of, read_of, blit_of, dash_of, source_of}
 
 -- the byte that holds a bit, as a pixel
 abbrev byte_at : Point → Point
@@ -58,6 +58,13 @@ bit-by c g extent l p x h q s =
     (by_cases (in_buffer extent.width extent.height (byte_at p))
     (λ t. rw (bits_in extent.width extent.height p h.0, t, column p))
     (λ t. rw (bits_in extent.width extent.height p h.0, t)))
+
+-- a bit whose byte lies outside the buffer
+pub stippled_outside : (c : Command) (g : Registers) (extent : Extent) (cell : Option Cell) (l : List ℕ) (p : Point) (x : ℕ)
+    → Some p ≡ cell_visit (point_of g.xy0) g.xy3 cell → (origin ≤ p.x) × (x ≡ p.x - origin)
+    → None ≡ place_of extent (record { x = origin + x / 8; y = p.y }) → None ≡ stippled_of c g extent cell l
+unfolding stippled_of
+stippled_outside c g extent cell l p x v h s = rw (← v) (bit-by c g extent l p x h None s)
 
 -- a tile's pixel, by where the cell's pixel lies in the destination
 pub tiled-by : (g : Registers) (fill : Fill) (cell : Option Cell) (v w : Option Point) → v ≡ cell_visit (point_of g.xy1) g.xy3 cell → v ≡ w

@@ -53,7 +53,7 @@ fn by_bit(c: Command, g: Registers, one: bool) -> Option<u32>
 }
 
 // A cell of a blit that reads bits of a buffer.
-#[tactic(auto, unfolding(crate::specs::Sources::stippled_of))]
+#[tactic(auto, using(crate::proofs::Reading::stippled_outside), unfolding(crate::specs::Sources::stippled_of))]
 fn stippled(
     c: Command,
     g: Registers,

@@ -20,6 +20,6 @@ returns c =
     let down = c.args.part.rows in
     let other = d.painted.other.now in
     let source = place_at b.from b.width b.direction across.from across.past down.from in
-    box-painted (Solid d.pen) b.width b.to b.from b.direction across down other _ b.width _ source _ refl c.place_at.ensures refl
-    (rw (c.len.ensures, c.len-2.ensures) at (c.fill_rows.ensures (right_to_left b.direction) b.width source other))
+    box-painted (Solid d.pen) b.width b.to b.from b.direction across down other _ b.width _ source _ _ _ refl c.place_at.ensures refl
+    c.len.ensures c.len-2.ensures (c.fill_rows.ensures (right_to_left b.direction) b.width source other)
     ∙ ap (λ p. box_of p b.width b.to b.from b.direction across down other c.args.buffer.now) (sym d.solid)

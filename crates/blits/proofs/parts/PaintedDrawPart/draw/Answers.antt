@@ -1,5 +1,6 @@
 -- No columns or no rows draw nothing (`none-shown`); others are the rows from their corners' places (`box-painted`).
 use mathlib.Core.Path.{sym, ◌∙◌}
+use native.Mathlib.Omega.{arith}
 use Rattle.blits.proofs.Boxes.{none-shown, box-painted}
 use Rattle.blits.proofs.parts.PaintedDrawPart.draw.Goals as goal
 
@@ -11,5 +12,5 @@ returns-then-is_empty c =
 pub returns : goal.returns
 returns c =
     let b = c.args.self.blit in
-    box-painted b.paint b.width b.to b.from b.direction c.args.part.columns c.args.part.rows _ _ _ _ _ _ c.source_width-stride.ensures c.place_at.ensures
-    c.place_at-2.ensures (rw (c.len.ensures, c.len-2.ensures) at c.paint_rows.ensures)
+    box-painted b.paint b.width b.to b.from b.direction c.args.part.columns c.args.part.rows _ _ _ _ _ _ _ _ c.source_width-stride.ensures
+    c.place_at.ensures c.place_at-2.ensures (omega (arith, c.len.ensures)) (omega (arith, c.len-2.ensures)) c.paint_rows.ensures
