@@ -82,13 +82,16 @@ module _ (paint : Paint) (width to from direction : ℕ) (across down : Range) (
       (λ t. no_rows (leb-true down.past down.from (or-first (leb across.past across.from) (leb down.past down.from) h t)))
 
   pub box-painted : (apart at start n count : ℕ) (k : List ℕ) → apart ≡ stride → at ≡ target
-      → start ≡ place_at from apart direction across.from across.past down.from → n ≡ across.past - across.from → count ≡ down.past - down.from
+      → start ≡ place_at from apart direction across.from across.past down.from
+      → n ≡ across.past - across.from → count ≡ down.past - down.from
       → k ≡ rows apart at start n count → k ≡ box_of paint width to from direction across down other l
   unfolding box_of
   box-painted apart at start n count k s p q long many e =
-      e ∙ ap₂ (λ at start. rows apart at start n count) p q
-      ∙ ap₂ (λ n count. rows apart target (place_at from apart direction across.from across.past down.from) n count) long many
-      ∙ ap (λ apart. rows apart target (place_at from apart direction across.from across.past down.from) (across.past - across.from) (down.past - down.from)) s
+      let columns = across.past - across.from in
+      let lines = down.past - down.from in
+      e ∙ ap₂ (rows apart at start) long many
+      ∙ ap₂ (λ at start. rows apart at start columns lines) p q
+      ∙ ap (λ apart. rows apart target (place_at from apart direction across.from across.past down.from) columns lines) s
 
 -- rows k apart are width * k apart in a buffer
 moved_down : (width y e t k o : ℕ) → o ≤ y + t → (y + t - o) * width + e + width * k ≡ (y + (t + k) - o) * width + e
